@@ -1,0 +1,4 @@
+pub mod Presentation
+pub mod Ask
+pub mod Same
+pub mod Orders

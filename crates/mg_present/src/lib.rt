@@ -1,0 +1,10 @@
+//! Finitely presented groups and what is asked about them: presentations by generators and relators,
+//! Asks, and what it means that two words are the same element or that a word lies in a subgroup.
+#![tactic(auto)]
+
+mod ask;
+mod presentation;
+
+pub use ask::{Ask, MOST_GOALS, MOST_SUBGROUP_WORDS};
+pub use mg_words::NoMemory;
+pub use presentation::{MOST_GENERATORS, MOST_RELATOR_LETTERS, MOST_RELATORS, Presentation};
