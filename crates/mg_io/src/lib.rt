@@ -17,3 +17,6 @@ pub use memory::{MemorySink, MemorySource};
 pub use outside::{Failed, Sink, Source};
 pub use steps::Steps;
 pub use whole::{ReadRefused, WriteRefused, read_all, read_counted, write_all};
+
+#[cfg(test)]
+mod tests;
