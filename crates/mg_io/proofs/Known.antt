@@ -4,6 +4,7 @@ use Rattle.std.proofs.Math.Seq.{drop-append_seam, drop-nil}
 use Rattle.std.proofs.lemmas.List.{drop-drop}
 use Rattle.std.proofs.KnownBytes.{Appends-trans}
 use Rattle.std.specs.Io.KnownBytes.{Appends, Consumes}
+use Rattle.mg_io.specs.Bytes.{ReadsWhole}
 
 -- two writes, one behind the other, appended one longer front
 pub Appends-front : (a b c : Option (List ℕ)) (bytes : List ℕ) (i n : ℕ) → Appends a b (take i bytes) → Appends b c (take n (drop i bytes)) → Appends a c (take (i + n) bytes)
@@ -25,3 +26,8 @@ front_of all old copied at n is front = sym is ∙ front ∙ ap (λ rest. take n
 -- where nothing is left at `at`, nothing is left behind it
 pub none_behind : (all : List ℕ) (at n : ℕ) → drop at all ≡ [] → drop (at + n) all ≡ []
 none_behind all at n none = sym (drop-drop n at all) ∙ ap (drop n) none ∙ drop-nil n
+
+-- what holds of the bytes that were read whole holds of the bytes that were left
+pub ReadsWhole-gives : (old new : Option (List ℕ)) (bytes : List ℕ) (P : List ℕ → Type 0) → P bytes → ReadsWhole old new bytes → IfSome old P
+ReadsWhole-gives None new bytes P holds whole = tt
+ReadsWhole-gives (Some all) new bytes P holds whole = subst P whole.0 holds

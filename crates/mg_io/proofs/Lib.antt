@@ -1,1 +1,2 @@
-mod Known
+-- Known: lemmas for this crate and for those that read and write whole
+pub mod Known

@@ -1,9 +1,10 @@
 // Reading all that a source has, and writing all of a text.
-ghost use Rattle.std.specs.Prelude.{◌≡◌, ◌≢◌, ◌+◌, ◌<◌, ◌≤◌, List, ℕ, length, take, drop, Some, Err, IfOk, OnOk, OnErr, IfSome};
+ghost use Rattle.std.specs.Prelude.{◌≡◌, ◌≢◌, ◌+◌, ◌<◌, ◌≤◌, length, take, drop, Some, Err, IfOk, IfErr, OnOk, OnErr, IfSome};
 ghost use Rattle.std.specs.Io.{ReadsAtMost};
 ghost use Rattle.std.specs.Io.KnownBytes.{ReadConsumes, Appends};
 ghost use Rattle.mg_io.specs.Bytes.{ReadsWhole, LosesUpTo};
 ghost use Rattle.mg_io.specs.Causes.{HasCause, Rose};
+ghost use Rattle.mg_io.specs.Written.{written_of};
 
 use crate::outside::{Failed, Sink, Source};
 use crate::steps::Steps;
@@ -173,8 +174,9 @@ pub fn write_all<K: Sink>(sink: &mut K, bytes: &[u8]) -> Result<(), WriteRefused
     ensures whole { OnOk result (Appends (K.taken sink.old) (K.taken sink.new) bytes.now) }
 
     ensures fault { OnErr result (Rose (K.faults sink.old) (K.faults sink.new)) }
-    ensures front { (written : ℕ) → result ≡ Err (WriteRefused.Fault written) →
-        (written < length bytes.now) × Appends (K.taken sink.old) (K.taken sink.new) (take written bytes.now) }
+    ensures short { IfErr result (λ refused. written_of refused < length bytes.now) }
+    ensures front { IfErr result (λ refused.
+        Appends (K.taken sink.old) (K.taken sink.new) (take (written_of refused) bytes.now)) }
     ensures quiet { OnOk result (K.faults sink.new ≡ K.faults sink.old) }
     ensures later { K.faults sink.old ≤ K.faults sink.new }
 {
