@@ -1,0 +1,2 @@
+pub mod TextsPlain
+pub mod TextsValues

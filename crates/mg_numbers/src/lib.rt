@@ -1,0 +1,6 @@
+//! Texts, permutations and tuples of residues by number: each number is exactly one of them.
+#![tactic(auto)]
+
+mod texts;
+
+pub use texts::{Digits, NoMemory, MOST_DIGITS, number_of, text_of};

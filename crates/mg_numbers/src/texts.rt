@@ -1,0 +1,136 @@
+//! Texts in bijective numeration: digits from 1 to the base, the most significant first.
+ghost use Rattle.std.specs.Prelude.{◌≡◌, ℕ, ◌+◌, ◌*◌, ◌^◌, ◌<◌, ◌≤◌, ◌↔◌, List, [], ◌∷◌, ◌++◌, length, take, replicate, IfOk, IfSome, IfNone, IsTrue};
+ghost use Rattle.mg_numbers.specs.Texts.{IsText, value, IsShortlexBefore};
+
+use std::alloc::{AllocError, Global};
+use std::marker::Model;
+
+/// Want of memory.
+pub type NoMemory = AllocError;
+
+/// How many digits a text may have.
+pub const MOST_DIGITS: usize = 4_096;
+
+/// The greatest value of a text that is told as a `u64`.
+const GREATEST: u64 = 1 << 62;
+
+/// A text of at most `MOST_DIGITS` digits, with room for all of them.
+#[derive(Debug, Drop)]
+pub struct Digits {
+    digits: Vec<u32>,
+}
+
+impl Model for Digits {
+    ghost use Rattle.std.specs.Prelude.{ℕ, List, ◌≤◌, length, vec_capacity};
+
+    ghost Value = { List ℕ };
+
+    ghost view = { λ d. d.digits.items };
+
+    ghost invariant = { λ d. (length d.digits.items ≤ 4096) × (4096 ≤ vec_capacity d.digits) };
+}
+
+impl Digits {
+    /// The empty text, with its room taken.
+    pub fn make(alloc: Global) -> Result<Digits, NoMemory>
+        ensures { IfOk result (λ d. d ≡ []) }
+    {
+        Ok(Digits {
+            digits: Vec::with_capacity(alloc, MOST_DIGITS)?,
+        })
+    }
+
+    /// Appends a digit. It takes no memory.
+    pub fn push(&mut self, digit: u32)
+        requires { length self.old < MOST_DIGITS }
+        ensures { self.new ≡ self.old ++ digit ∷ [] }
+    {
+        self.digits.push_reserved(digit);
+    }
+
+    /// Empties the text, and keeps its room.
+    pub fn clear(&mut self)
+        ensures { self.new ≡ [] }
+    {
+        self.digits.clear();
+    }
+
+    /// Lends the digits, the most significant first.
+    pub fn as_slice(&self) -> &[u32]
+        ensures same { result.now ≡ self.now }
+        ensures most { length self.now ≤ MOST_DIGITS }
+    {
+        self.digits.as_slice()
+    }
+
+    /// How many digits there are.
+    pub fn len(&self) -> usize
+        ensures count { result ≡ length self.now }
+        ensures most { result ≤ MOST_DIGITS }
+    {
+        self.digits.len()
+    }
+
+    /// Whether there is no digit.
+    pub fn is_empty(&self) -> bool
+        ensures { IsTrue result ↔ (self.now ≡ []) }
+    {
+        self.digits.is_empty()
+    }
+
+    /// Goes to the next text: the one whose value is one more.
+    pub fn advance(&mut self, base: u32)
+        requires base { 1 ≤ base }
+        requires text { IsText base self.old }
+        requires room { length self.old < MOST_DIGITS }
+        ensures text { IsText base self.new }
+        ensures value { value base self.new ≡ value base self.old + 1 }
+    {
+        let mut place = self.digits.len();
+        while place > 0 {
+            place -= 1;
+            if self.digits[place] < base {
+                self.digits[place] += 1;
+                return;
+            }
+            self.digits[place] = 1;
+        }
+        self.digits.push_reserved(1);
+    }
+}
+
+/// Puts the text of value `n` into `out`.
+pub fn text_of(n: u64, base: u32, out: &mut Digits)
+    requires least_base { 1 ≤ base }
+    requires greatest_base { base ≤ 769 }
+    requires greatest { n ≤ 2 ^ 62 }
+    requires one_digit { base ≡ 1 → n ≤ 4096 }
+    ensures text { IsText base out.new }
+    ensures value { value base out.new ≡ n }
+{
+    out.clear();
+    let mut rest = n;
+    while rest > 0 {
+        let place_before = (rest - 1) / u64::from(base);
+        out.push(((rest - 1) % u64::from(base)) as u32 + 1);
+        rest = place_before;
+    }
+    out.digits.reverse();
+}
+
+/// The value of the digits; None exactly where it passes 2^62.
+pub fn number_of(digits: &[u32], base: u32) -> Option<u64>
+    requires { IsText base digits.now }
+    ensures some { IfSome result (λ n. (n ≡ value base digits.now) × (n ≤ 2 ^ 62)) }
+    ensures none { IfNone result (2 ^ 62 < value base digits.now) }
+{
+    let mut value: u64 = 0;
+    for &digit in digits {
+        let longer = u128::from(value) * u128::from(base) + u128::from(digit);
+        if longer > u128::from(GREATEST) {
+            return None;
+        }
+        value = longer as u64;
+    }
+    Some(value)
+}
