@@ -225,3 +225,13 @@ length_within base k xs h two a v =
     elim (cases_lt k (length xs)) [
     inl above ↦ absurd (omega (arith, length_below base xs h a, pow_mono {i = suc k} above, pow-suc 2 k, pow_mono {i = 1} {j = k} (omega arith))) |
     inr within ↦ within ]
+
+-- the next text has at most one digit more
+pub length_of_next : (base : ℕ) (xs ys : List ℕ) → 1 ≤ base → IsText base xs → IsText base ys → value base ys ≡ value base xs + 1 → length ys ≤ length xs + 1
+length_of_next base xs ys h a b e =
+    elim (cases_lt (length xs + 1) (length ys)) [
+    inl longer ↦
+      let n : ℕ = suc (length xs) in
+      let low : least_of base (suc n) ≤ least_of base (length ys) = least_of-monotone base (suc n) (length ys) (omega arith) in
+      absurd (omega (arith, value_below base xs a, value_at_least base ys b, low, one-le-pow n base h)) |
+    inr within ↦ within ]

@@ -3,4 +3,4 @@
 
 mod texts;
 
-pub use texts::{Digits, NoMemory, MOST_DIGITS, number_of, text_of};
+pub use texts::{Digits, NoMemory, MOST_DIGITS, number_of, text_of, texts_and_numbers_correspond, values_are_in_shortlex_order};

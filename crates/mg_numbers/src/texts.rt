@@ -97,6 +97,35 @@ impl Digits {
         }
         self.digits.push_reserved(1);
     }
+
+    /// Goes past all texts of the same length that begin with the first `kept` digits, to the first text after them.
+    pub fn skip(&mut self, kept: usize, base: u32)
+        requires base { 1 ≤ base }
+        requires text { IsText base self.old }
+        requires within { kept ≤ length self.old }
+        requires room { length self.old < MOST_DIGITS }
+        ensures text { IsText base self.new }
+        ensures above { value base self.old < value base self.new }
+
+        // All of those texts are passed, and no other text is.
+        ensures past { (t : List ℕ) → IsText base t → length t ≡ length self.old → take kept t ≡ take kept self.old → value base t < value base self.new }
+        ensures between { (t : List ℕ) → IsText base t → value base self.old < value base t → value base t < value base self.new → (length t ≡ length self.old) × (take kept t ≡ take kept self.old) }
+    {
+        let length = self.digits.len();
+        self.digits.truncate(kept);
+        self.advance(base);
+        self.push_ones(length - kept);
+    }
+
+    /// Appends that many digits 1.
+    fn push_ones(&mut self, count: usize)
+        requires { length self.old + count ≤ MOST_DIGITS }
+        ensures { self.new ≡ self.old ++ replicate count 1 }
+    {
+        for _pushed in 0..count {
+            self.push(1);
+        }
+    }
 }
 
 /// Puts the text of value `n` into `out`.
@@ -111,9 +140,8 @@ pub fn text_of(n: u64, base: u32, out: &mut Digits)
     out.clear();
     let mut rest = n;
     while rest > 0 {
-        let place_before = (rest - 1) / u64::from(base);
         out.push(((rest - 1) % u64::from(base)) as u32 + 1);
-        rest = place_before;
+        rest = (rest - 1) / u64::from(base);
     }
     out.digits.reverse();
 }
@@ -133,4 +161,18 @@ pub fn number_of(digits: &[u32], base: u32) -> Option<u64>
         value = longer as u64;
     }
     Some(value)
+}
+
+/// Texts over one base and numbers correspond one to one: two texts of one value are one text, and each number is the
+/// value of a text.
+pub fn texts_and_numbers_correspond()
+    ensures one_text { (base : ℕ) (s t : List ℕ) → IsText base s → IsText base t → value base s ≡ value base t → s ≡ t }
+    ensures each_number { (base n : ℕ) → 1 ≤ base → (t : List ℕ) × IsText base t × (value base t ≡ n) }
+{
+}
+
+/// The order of values is the order by length, and within a length by the first place of difference.
+pub fn values_are_in_shortlex_order()
+    ensures { (base : ℕ) (s t : List ℕ) → IsText base s → IsText base t → (value base s < value base t ↔ IsShortlexBefore s t) }
+{
 }
