@@ -1,5 +1,5 @@
 -- Turns of a search that tests the numbers from 1 in order, one after another.
-use Rattle.std.proofs.Common.{◌≡◌, ℕ, ◌+◌, ◌-◌, ◌<◌, ◌≤◌, inl, inr, arith}
+use Rattle.std.proofs.Common.{◌≡◌, ℕ, ◌+◌, ◌-◌, ◌<◌, inl, inr, arith}
 use Rattle.std.proofs.lemmas.Bool.{cases_lt, cases_order}
 use Rattle.mg_numbers.specs.Plain.{NoneAmong, First, TestsAll, FindsFirst, PassesNone}
 
@@ -26,7 +26,7 @@ module _ (P : ℕ → Type 0) where
   first_found cursor units spent before turn = record {
     from = omega (arith, turn.some);
     holds = turn.holds;
-    least = λ k from below holds. none_joined 0 cursor (cursor + spent - 1) before turn.none_before k from (omega (arith, turn.some)) holds
+    least = λ k from below holds. none_joined 0 cursor (cursor + spent - 1) before turn.none_before k from (omega (arith, turn.some)) holds;
   }
 
   -- where there is none up to a number, the least is above it
@@ -38,13 +38,14 @@ module _ (P : ℕ → Type 0) where
   pub first_unique : (m n : ℕ) → First P m → First P n → m ≡ n
   first_unique m n a b =
       elim (cases_order m n) [
-      inl same ↦ same |
-      inr rest ↦ elim rest [ inl below ↦ absurd (b.least m a.from below a.holds) | inr above ↦ absurd (a.least n b.from above b.holds) ] ]
+        | inl same ↦ same
+        | inr rest ↦ elim rest [ inl below ↦ absurd (b.least m a.from below a.holds) | inr above ↦ absurd (a.least n b.from above b.holds) ]
+      ]
 
 -- the same for a property that each number with the first one has
 pub first_alike : (P Q : ℕ → Type 0) → ((k : ℕ) → P k → Q k) → ((k : ℕ) → Q k → P k) → (n : ℕ) → First P n → First Q n
 first_alike P Q there back n first = record {
   from = first.from;
   holds = there n first.holds;
-  least = λ k from below holds. first.least k from below (back k holds)
+  least = λ k from below holds. first.least k from below (back k holds);
 }

@@ -1,8 +1,8 @@
 -- The first text after all texts of one length that begin with the same digits.
-use Rattle.std.proofs.Common.{◌≡◌, ℕ, suc, ◌+◌, ◌-◌, ◌*◌, ◌^◌, ◌<◌, ◌≤◌, ◌⊎◌, List, [], ◌∷◌, ◌++◌, length, take, drop, replicate, sym, ◌∙◌, ap, inl, inr, arith}
-use Rattle.std.proofs.Math.Nat.{one-le-pow, mul-le-mul_right}
-use Rattle.std.proofs.lemmas.List.{length-append, length-drop, length-take-le, length-replicate, take-append-drop}
-use Rattle.std.proofs.lemmas.Bool.{cases_lt, cases_order}
+use Rattle.std.proofs.Common.{◌≡◌, ℕ, suc, ◌+◌, ◌*◌, ◌^◌, ◌<◌, ◌≤◌, List, ◌++◌, length, take, drop, replicate, ap, inl, inr, arith}
+use Rattle.std.proofs.Math.Nat.{mul-le-mul_right}
+use Rattle.std.proofs.lemmas.List.{length-drop, length-take-le, length-replicate, take-append-drop}
+use Rattle.std.proofs.lemmas.Bool.{cases_order}
 use Rattle.mg_numbers.specs.Texts.{IsText, value}
 use Rattle.mg_numbers.proofs.TextsValues.{IsText-append, IsText-take, IsText-drop, IsText-ones, value-append, value_of_ones, least_of, least_of-add, least_of-monotone, value_at_least, value_below, value_shorter, text_unique}
 
@@ -24,12 +24,12 @@ split_at base k m t a e =
       front_long = length-take-le k t (omega arith);
       counts = omega (arith, value-append base (take k t) (drop k t), ap (λ s. value base s) (take-append-drop k t), ap (λ n. value base (take k t) * n) p);
       low = omega (arith, value_at_least base (drop k t) back, q);
-      high = omega (arith, value_below base (drop k t) back, p, q)
+      high = omega (arith, value_below base (drop k t) back, p, q);
     }
 
 -- `next` is the text after the first `kept` digits of `old`, and it is filled up with digits 1
 module _ (base kept m : ℕ) (old next : List ℕ) (some : 1 ≤ base) (is_text : IsText base old) (long : length old ≡ kept + m)
-  (next_is : IsText base next) (after : value base next ≡ value base (take kept old) + 1) where
+    (next_is : IsText base next) (after : value base next ≡ value base (take kept old) + 1) where
   pub skipped-IsText : IsText base (next ++ replicate m 1)
   skipped-IsText = IsText-append base next (replicate m 1) next_is (IsText-ones base m some)
 
@@ -65,10 +65,12 @@ module _ (base kept m : ℕ) (old next : List ℕ) (some : 1 ≤ base) (is_text 
       → (length t ≡ length old) × (take kept t ≡ take kept old)
   skipped_between t a low high =
       elim (cases_order (length t) (length old)) [
-      inr other ↦ elim other [
-        inl shorter ↦ absurd (omega (arith, value_shorter base t old a is_text shorter)) |
-        inr longer ↦ absurd (omega (arith, value_at_least base t a, least_of-monotone base (suc (length old)) (length t) longer, within_length)) ] |
-      inl same ↦ (same, same_front t a low high same) ]
+        | inr other ↦ elim other [
+          | inl shorter ↦ absurd (omega (arith, value_shorter base t old a is_text shorter))
+          | inr longer ↦ absurd (omega (arith, value_at_least base t a, least_of-monotone base (suc (length old)) (length t) longer, within_length))
+        ]
+        | inl same ↦ (same, same_front t a low high same)
+      ]
     where
       same_front : (t : List ℕ) → IsText base t → value base old < value base t → value base t < value base (next ++ replicate m 1) → length t ≡ length old → take kept t ≡ take kept old
       same_front t a low high same =
@@ -76,7 +78,9 @@ module _ (base kept m : ℕ) (old next : List ℕ) (some : 1 ≤ base) (is_text 
           let o = split_at base kept m old is_text long in
           text_unique base (take kept t) (take kept old) s.front_is o.front_is (
           elim (cases_order (value base (take kept t)) (value base (take kept old))) [
-          inl e ↦ e |
-          inr other ↦ elim other [
-            inl less ↦ absurd (omega (arith, s.counts, s.high, o.counts, o.low, low, mul-le-mul_right (base ^ m) less)) |
-            inr more ↦ absurd (omega (arith, s.counts, s.low, high, value_of_skipped, mul-le-mul_right (base ^ m) more)) ] ])
+            | inl e ↦ e
+            | inr other ↦ elim other [
+              | inl less ↦ absurd (omega (arith, s.counts, s.high, o.counts, o.low, low, mul-le-mul_right (base ^ m) less))
+              | inr more ↦ absurd (omega (arith, s.counts, s.low, high, value_of_skipped, mul-le-mul_right (base ^ m) more))
+            ]
+          ])

@@ -1,11 +1,10 @@
 -- Steps of the loops over texts: the carry of a last digit, and digits written least significant first.
-use Rattle.std.proofs.Common.{◌≡◌, ℕ, zero, suc, ◌+◌, ◌-◌, ◌*◌, ◌/◌, ◌%◌, ◌^◌, ◌<◌, ◌≤◌, List, [], ◌∷◌, ◌++◌, length, take, drop, set, get_or, replicate, reverse, refl, sym, ◌∙◌, ap, subst, inl, inr, arith, add-one}
-use Rattle.std.proofs.Math.Nat.{pow-suc, pow-succ', pow-zero, one-le-pow, mul-le-mul_right, mul-le-mul, one-mul, sub-zero}
+use Rattle.std.proofs.Common.{◌≡◌, ℕ, suc, ◌+◌, ◌-◌, ◌*◌, ◌/◌, ◌%◌, ◌^◌, ◌<◌, ◌≤◌, List, [], ◌∷◌, ◌++◌, length, take, drop, set, get_or, replicate, reverse, refl, ◌∙◌, ap, arith, add-one}
+use Rattle.std.proofs.Math.Nat.{pow-suc, pow-succ', pow-zero, one-le-pow, mul-le-mul, one-mul, sub-zero}
 use Rattle.std.proofs.lemmas.Nat.{mul-lt, div-add-mod'}
-use Rattle.std.proofs.lemmas.List.{length-append, length-set, length-take-le, length-replicate, length-reverse, reverse-append, take-append-drop, take_more, drop_all, drop-set, nil_from_length}
-use Rattle.std.proofs.lemmas.Bool.{cases_lt, cases_order}
+use Rattle.std.proofs.lemmas.List.{length-append, length-set, length-reverse, reverse-append, take-append-drop, take_more, drop_all, drop-set}
 use Rattle.mg_numbers.specs.Texts.{IsDigit, IsText, value}
-use Rattle.mg_numbers.proofs.TextsValues.{IsText-append, IsText-set, IsText-take, IsText-drop, digit_at, value-append, value-push, value-set, value_of_one, least_of, least_of-add, value_of_ones, value_in_base_one, length_within}
+use Rattle.mg_numbers.proofs.TextsValues.{IsText-append, IsText-set, digit_at, value-append, value-push, value-set, least_of, least_of-add, value_of_ones, room_for_a_digit}
 
 -- ---- the next text
 
@@ -24,7 +23,7 @@ carry_start base old a =
       within = omega arith;
       is_text = a;
       ones = rw none (drop_all (length old) old (omega arith));
-      counts = rw none (omega (arith, pow-zero base))
+      counts = rw none (omega (arith, pow-zero base));
     }
 
 pub carry_on : (base : ℕ) (old now : List ℕ) (place : ℕ) → 1 ≤ base → 0 < place → Carrying base old now place → base ≤ get_or now (place - 1) 0
@@ -42,16 +41,17 @@ carry_on base old now place h above c last =
       within = omega (arith, c.within);
       is_text = IsText-set base now i 1 c.is_text (record { least = omega arith; most = h });
       ones = rw one_more (drop-set now i 1 (omega (arith, c.within)) ∙ ap (λ t. 1 ∷ t) rest);
-      counts = rw one_more (omega (arith, c.counts, value-set base now i 1 k (omega (arith, c.within)), ap (λ n. n * base ^ k) e, pow-succ' base k))
+      counts = rw one_more (omega (arith, c.counts, value-set base now i 1 k (omega (arith, c.within)), ap (λ n. n * base ^ k) e, pow-succ' base k));
     }
 
 pub carry_lands : (base : ℕ) (old now : List ℕ) (place : ℕ) → 0 < place → Carrying base old now place → get_or now (place - 1) 0 < base
     → IsText base (set now (place - 1) (get_or now (place - 1) 0 + 1)) × (value base (set now (place - 1) (get_or now (place - 1) 0 + 1)) ≡ value base old + 1)
 carry_lands base old now place above c below =
     let i : ℕ = place - 1 in
-    let k : ℕ = length now - place in
-    (IsText-set base now i (get_or now i 0 + 1) c.is_text (record { least = omega arith; most = omega arith }),
-    omega (arith, c.counts, value-set base now i (get_or now i 0 + 1) k (omega (arith, c.within))))
+    let k : ℕ = length now - place in (
+      IsText-set base now i (get_or now i 0 + 1) c.is_text (record { least = omega arith; most = omega arith }),
+      omega (arith, c.counts, value-set base now i (get_or now i 0 + 1) k (omega (arith, c.within))),
+    )
 
 ones_and_one_more : (base k : ℕ) → least_of base k * base + 1 ≡ least_of base k + base ^ k
 ones_and_one_more base k =
@@ -63,9 +63,10 @@ pub carry_out : (base : ℕ) (old now : List ℕ) → 1 ≤ base → Carrying ba
 carry_out base old now h c =
     let ones : now ≡ replicate (length now) 1 = rw sub-zero at c.ones in
     let counts = rw sub-zero at c.counts in
-    let v : value base now ≡ least_of base (length now) = ap (λ t. value base t) ones ∙ value_of_ones base (length now) in
-    (IsText-append base now (1 ∷ []) c.is_text (record { least = omega arith; most = h }, tt),
-    omega (arith, counts, value-push base now 1, v, ap (λ n. n * base) v, ones_and_one_more base (length now)))
+    let v : value base now ≡ least_of base (length now) = ap (λ t. value base t) ones ∙ value_of_ones base (length now) in (
+      IsText-append base now (1 ∷ []) c.is_text (record { least = omega arith; most = h }, tt),
+      omega (arith, counts, value-push base now 1, v, ap (λ n. n * base) v, ones_and_one_more base (length now)),
+    )
 
 -- ---- the value of a text
 
@@ -103,7 +104,7 @@ written_more base n rest digits h some w =
     let back : length (reverse digits) ≡ length digits = length-reverse digits in
     record {
       is_text = rw turned (record { least = omega arith; most = omega arith }, w.is_text);
-      counts = rw (turned, long) (omega (arith, w.counts, ap (λ k. d * base ^ k) back, ap (λ k. q * k) (pow-succ' base (length digits)), ap (λ k. k * base ^ length digits) parts))
+      counts = rw (turned, long) (omega (arith, w.counts, ap (λ k. d * base ^ k) back, ap (λ k. q * k) (pow-succ' base (length digits)), ap (λ k. k * base ^ length digits) parts));
     }
 
 -- where something is left to write there is room for a digit
@@ -111,9 +112,4 @@ pub written_room : (base n rest : ℕ) (digits : List ℕ) → 1 ≤ base → 0 
 written_room base n rest digits h some top one_digit w =
     let back : length (reverse digits) ≡ length digits = length-reverse digits in
     let p : 1 * 1 ≤ rest * base ^ length digits = mul-le-mul some (one-le-pow (length digits) base h) in
-    elim (cases_lt 1 base) [
-    inl two ↦ omega (arith, length_within base 62 (reverse digits) two (omega arith) w.is_text (omega (arith, w.counts))) |
-    inr one ↦
-      let e : base ≡ 1 = omega arith in
-      let t : IsText 1 (reverse digits) = subst (λ b. IsText b (reverse digits)) e w.is_text in
-      omega (arith, one_digit e, value_in_base_one (reverse digits) t, ap (λ b. value b (reverse digits)) e, w.counts) ]
+    omega (arith, back, room_for_a_digit base (reverse digits) h w.is_text (omega (arith, w.counts)) (λ e. omega (arith, one_digit e, w.counts)))

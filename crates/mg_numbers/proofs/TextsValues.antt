@@ -1,9 +1,8 @@
 -- Bijective numeration: bounds on the values of texts, their order, and that texts and numbers correspond one to one.
-use Rattle.std.proofs.Common.{◌≡◌, ℕ, zero, suc, ◌+◌, ◌-◌, ◌*◌, ◌^◌, ◌<◌, ◌≤◌, ◌⊎◌, List, [], ◌∷◌, ◌++◌, length, take, drop, set, get_or, replicate, refl, sym, ◌∙◌, ap, subst, inl, inr, zero-add, suc-add, arith}
-use Rattle.std.specs.List.{AllByRecursion}
+use Rattle.std.proofs.Common.{◌≡◌, ℕ, zero, suc, ◌+◌, ◌-◌, ◌*◌, ◌^◌, ◌<◌, ◌≤◌, ◌⊎◌, List, [], ◌∷◌, ◌++◌, length, take, drop, set, get_or, replicate, refl, sym, ap, subst, inl, inr, zero-add, suc-add, arith}
 use Rattle.std.proofs.Math.Nat.{pow-suc, pow-succ', pow-zero, one-le-pow, mul-le-mul_right, pow-le-pow_left}
 use Rattle.std.proofs.lemmas.Nat.{pow-add}
-use Rattle.std.proofs.lemmas.List.{length-append, length-set, length-take, length-take-le, length-replicate, take-append-drop, append-nil, length-drop}
+use Rattle.std.proofs.lemmas.List.{length-append, length-set, length-replicate}
 use Rattle.std.proofs.Math.Pow.{pow_mono}
 use Rattle.std.proofs.lemmas.Bool.{cases_lt, cases_order}
 use Rattle.mg_numbers.specs.Texts.{IsDigit, IsText, value, IsLexBefore, IsShortlexBefore}
@@ -128,8 +127,9 @@ lex_value base (x ∷ xs) (y ∷ ys) a b h l =
     let p : base ^ length xs ≡ base ^ length ys = ap (λ n. base ^ n) e in
     let q : least_of base (length xs) ≡ least_of base (length ys) = ap (λ n. least_of base n) e in
     elim l [
-    inl less ↦ omega (arith, value_below base xs a.1, value_at_least base ys b.1, mul-le-mul_right (base ^ length ys) less, p, q, ap (λ n. x * n) p) |
-    inr rest ↦ omega (arith, lex_value base xs ys a.1 b.1 e rest.1, ap (λ n. n * base ^ length ys) rest.0, ap (λ n. x * n) p) ]
+      | inl less ↦ omega (arith, value_below base xs a.1, value_at_least base ys b.1, mul-le-mul_right (base ^ length ys) less, p, q, ap (λ n. x * n) p)
+      | inr rest ↦ omega (arith, lex_value base xs ys a.1 b.1 e rest.1, ap (λ n. n * base ^ length ys) rest.0, ap (λ n. x * n) p)
+    ]
 
 -- of two texts of one length that differ one comes first
 lex_cases : (xs ys : List ℕ) → length xs ≡ length ys → (xs ≡ ys) ⊎ (IsLexBefore xs ys ⊎ IsLexBefore ys xs)
@@ -138,18 +138,22 @@ lex_cases [] (y ∷ ys) h = absurd (omega arith)
 lex_cases (x ∷ xs) [] h = absurd (omega arith)
 lex_cases (x ∷ xs) (y ∷ ys) h =
     elim (cases_order x y) [
-    inl same ↦ elim (lex_cases xs ys (omega arith)) [
-      inl e ↦ inl (cc) |
-      inr l ↦ elim l [ inl before ↦ inr (inl (inr (same, before))) | inr after ↦ inr (inr (inr (sym same, after))) ] ] |
-    inr l ↦ elim l [ inl before ↦ inr (inl (inl before)) | inr after ↦ inr (inr (inl after)) ] ]
+      | inl same ↦ elim (lex_cases xs ys (omega arith)) [
+        | inl e ↦ inl (cc)
+        | inr l ↦ elim l [ inl before ↦ inr (inl (inr (same, before))) | inr after ↦ inr (inr (inr (sym same, after))) ]
+      ]
+      | inr l ↦ elim l [ inl before ↦ inr (inl (inl before)) | inr after ↦ inr (inr (inl after)) ]
+    ]
 
 pub shortlex_cases : (xs ys : List ℕ) → (xs ≡ ys) ⊎ (IsShortlexBefore xs ys ⊎ IsShortlexBefore ys xs)
 shortlex_cases xs ys =
     elim (cases_order (length xs) (length ys)) [
-    inl e ↦ elim (lex_cases xs ys e) [
-      inl same ↦ inl same |
-      inr l ↦ elim l [ inl before ↦ inr (inl (inr (e, before))) | inr after ↦ inr (inr (inr (sym e, after))) ] ] |
-    inr l ↦ elim l [ inl before ↦ inr (inl (inl before)) | inr after ↦ inr (inr (inl after)) ] ]
+      | inl e ↦ elim (lex_cases xs ys e) [
+        | inl same ↦ inl same
+        | inr l ↦ elim l [ inl before ↦ inr (inl (inr (e, before))) | inr after ↦ inr (inr (inr (sym e, after))) ]
+      ]
+      | inr l ↦ elim l [ inl before ↦ inr (inl (inl before)) | inr after ↦ inr (inr (inl after)) ]
+    ]
 
 -- the order of values is the order by length and then by the first place of difference
 pub value_in_order : (base : ℕ) (xs ys : List ℕ) → IsText base xs → IsText base ys → IsShortlexBefore xs ys → value base xs < value base ys
@@ -159,17 +163,20 @@ value_in_order base xs ys a b l =
 pub order_of_values : (base : ℕ) (xs ys : List ℕ) → IsText base xs → IsText base ys → value base xs < value base ys → IsShortlexBefore xs ys
 order_of_values base xs ys a b h =
     elim (shortlex_cases xs ys) [
-    inl same ↦ absurd (omega (arith, ap (λ t. value base t) same)) |
-    inr l ↦ elim l [ inl before ↦ before | inr after ↦ absurd (omega (arith, value_in_order base ys xs b a after)) ] ]
+      | inl same ↦ absurd (omega (arith, ap (λ t. value base t) same))
+      | inr l ↦ elim l [ inl before ↦ before | inr after ↦ absurd (omega (arith, value_in_order base ys xs b a after)) ]
+    ]
 
 -- two texts of one value are one text
 pub text_unique : (base : ℕ) (xs ys : List ℕ) → IsText base xs → IsText base ys → value base xs ≡ value base ys → xs ≡ ys
 text_unique base xs ys a b h =
     elim (shortlex_cases xs ys) [
-    inl same ↦ same |
-    inr l ↦ elim l [
-      inl before ↦ absurd (omega (arith, value_in_order base xs ys a b before)) |
-      inr after ↦ absurd (omega (arith, value_in_order base ys xs b a after)) ] ]
+      | inl same ↦ same
+      | inr l ↦ elim l [
+        | inl before ↦ absurd (omega (arith, value_in_order base xs ys a b before))
+        | inr after ↦ absurd (omega (arith, value_in_order base ys xs b a after))
+      ]
+    ]
 
 -- ---- each number has a text
 
@@ -186,10 +193,12 @@ next_of base (x ∷ xs) h a =
     let r = next_of base xs h a.1 in
     let p : base ^ length r.next ≡ base ^ length xs = ap (λ n. base ^ n) r.as_long in
     elim r.counts [
-    inl stays ↦ record { next = x ∷ r.next; as_long = omega (arith, r.as_long); is_text = (a.0, r.is_text); counts = inl (omega (arith, stays, ap (λ n. x * n) p)) } |
-    inr carry ↦ elim (cases_lt x base) [
-      inl below ↦ record { next = (x + 1) ∷ r.next; as_long = omega (arith, r.as_long); is_text = (record { least = omega arith; most = omega arith }, r.is_text); counts = inl (omega (arith, carry, p, ap (λ n. x * n) p)) } |
-      inr last ↦ record { next = 1 ∷ r.next; as_long = omega (arith, r.as_long); is_text = (record { least = omega arith; most = h }, r.is_text); counts = inr (let e : x ≡ base = omega (arith, a.0.most) in omega (arith, carry, p, ap (λ n. n * base ^ length xs) e, pow-succ' base (length xs))) } ] ]
+      | inl stays ↦ record { next = x ∷ r.next; as_long = omega (arith, r.as_long); is_text = (a.0, r.is_text); counts = inl (omega (arith, stays, ap (λ n. x * n) p)) }
+      | inr carry ↦ elim (cases_lt x base) [
+        | inl below ↦ record { next = (x + 1) ∷ r.next; as_long = omega (arith, r.as_long); is_text = (record { least = omega arith; most = omega arith }, r.is_text); counts = inl (omega (arith, carry, p, ap (λ n. x * n) p)) }
+        | inr last ↦ record { next = 1 ∷ r.next; as_long = omega (arith, r.as_long); is_text = (record { least = omega arith; most = h }, r.is_text); counts = inr (let e : x ≡ base = omega (arith, a.0.most) in omega (arith, carry, p, ap (λ n. n * base ^ length xs) e, pow-succ' base (length xs))) }
+      ]
+    ]
 
 pub text_of_each : (base n : ℕ) → 1 ≤ base → (text : List ℕ) × IsText base text × (value base text ≡ n)
 text_of_each base zero h = ([], tt, refl)
@@ -197,8 +206,9 @@ text_of_each base (suc n) h =
     let before = text_of_each base n h in
     let r = next_of base before.0 h before.1 in
     elim r.counts [
-    inl stays ↦ (r.next, r.is_text, omega (arith, stays, before.2)) |
-    inr carry ↦ (1 ∷ r.next, (record { least = omega arith; most = h }, r.is_text), omega (arith, carry, before.2, ap (λ n. base ^ n) r.as_long)) ]
+      | inl stays ↦ (r.next, r.is_text, omega (arith, stays, before.2))
+      | inr carry ↦ (1 ∷ r.next, (record { least = omega arith; most = h }, r.is_text), omega (arith, carry, before.2, ap (λ n. base ^ n) r.as_long))
+    ]
 
 -- ---- lengths
 
@@ -223,15 +233,28 @@ length_below base xs h a = omega (arith, value_at_least base xs a, least_in_base
 pub length_within : (base k : ℕ) (xs : List ℕ) → 2 ≤ base → 2 ≤ k → IsText base xs → value base xs ≤ 2 ^ k → length xs ≤ k
 length_within base k xs h two a v =
     elim (cases_lt k (length xs)) [
-    inl above ↦ absurd (omega (arith, length_below base xs h a, pow_mono {i = suc k} above, pow-suc 2 k, pow_mono {i = 1} {j = k} (omega arith))) |
-    inr within ↦ within ]
+      | inl above ↦ absurd (omega (arith, length_below base xs h a, pow_mono {i = suc k} above, pow-suc 2 k, pow_mono {i = 1} {j = k} (omega arith)))
+      | inr within ↦ within
+    ]
 
 -- the next text has at most one digit more
 pub length_of_next : (base : ℕ) (xs ys : List ℕ) → 1 ≤ base → IsText base xs → IsText base ys → value base ys ≡ value base xs + 1 → length ys ≤ length xs + 1
 length_of_next base xs ys h a b e =
     elim (cases_lt (length xs + 1) (length ys)) [
-    inl longer ↦
-      let n : ℕ = suc (length xs) in
-      let low : least_of base (suc n) ≤ least_of base (length ys) = least_of-monotone base (suc n) (length ys) (omega arith) in
-      absurd (omega (arith, value_below base xs a, value_at_least base ys b, low, one-le-pow n base h)) |
-    inr within ↦ within ]
+      | inl longer ↦
+          let n : ℕ = suc (length xs) in
+          let low : least_of base (suc n) ≤ least_of base (length ys) = least_of-monotone base (suc n) (length ys) (omega arith) in
+          absurd (omega (arith, value_below base xs a, value_at_least base ys b, low, one-le-pow n base h))
+      | inr within ↦ within
+    ]
+
+-- a text of a value up to 2 ^ 62, over one digit up to 4095, has less than 4096 digits
+pub room_for_a_digit : (base : ℕ) (xs : List ℕ) → 1 ≤ base → IsText base xs → value base xs ≤ 2 ^ 62 → (base ≡ 1 → value base xs < 4096) → length xs < 4096
+room_for_a_digit base xs h a top one_digit =
+    elim (cases_lt 1 base) [
+      | inl two ↦ omega (arith, length_within base 62 xs two (omega arith) a top)
+      | inr one ↦
+          let e : base ≡ 1 = omega arith in
+          let t : IsText 1 xs = subst (λ b. IsText b xs) e a in
+          omega (arith, one_digit e, value_in_base_one xs t, ap (λ b. value b xs) e)
+    ]

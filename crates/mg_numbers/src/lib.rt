@@ -3,4 +3,7 @@
 
 mod texts;
 
-pub use texts::{Digits, NoMemory, MOST_DIGITS, number_of, text_of, texts_and_numbers_correspond, values_are_in_shortlex_order};
+pub use texts::{
+    Digits, MOST_DIGITS, NoMemory, number_of, text_of, texts_and_numbers_correspond,
+    values_are_in_shortlex_order,
+};

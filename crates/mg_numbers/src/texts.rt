@@ -85,6 +85,7 @@ impl Digits {
         requires room { length self.old < MOST_DIGITS }
         ensures text { IsText base self.new }
         ensures value { value base self.new ≡ value base self.old + 1 }
+        ensures longer { length self.new ≤ length self.old + 1 }
     {
         let mut place = self.digits.len();
         while place > 0 {
@@ -106,6 +107,7 @@ impl Digits {
         requires room { length self.old < MOST_DIGITS }
         ensures text { IsText base self.new }
         ensures above { value base self.old < value base self.new }
+        ensures longer { length self.new ≤ length self.old + 1 }
 
         // All of those texts are passed, and no other text is.
         ensures past { (t : List ℕ) → IsText base t → length t ≡ length self.old → take kept t ≡ take kept self.old → value base t < value base self.new }
@@ -168,11 +170,66 @@ pub fn number_of(digits: &[u32], base: u32) -> Option<u64>
 pub fn texts_and_numbers_correspond()
     ensures one_text { (base : ℕ) (s t : List ℕ) → IsText base s → IsText base t → value base s ≡ value base t → s ≡ t }
     ensures each_number { (base n : ℕ) → 1 ≤ base → (t : List ℕ) × IsText base t × (value base t ≡ n) }
-{
-}
+{}
 
 /// The order of values is the order by length, and within a length by the first place of difference.
 pub fn values_are_in_shortlex_order()
     ensures { (base : ℕ) (s t : List ℕ) → IsText base s → IsText base t → (value base s < value base t ↔ IsShortlexBefore s t) }
-{
+{}
+
+#[cfg(test)]
+mod tests {
+    use super::*;
+    use std::test::Fail;
+
+    #[test]
+    fn worked_values(rt: HostRuntime) -> Result<(), Fail> {
+        let mut out = Digits::make(rt.alloc())?;
+        assert!(rt; out.is_empty());
+        text_of(20, 5, &mut out);
+        assert_eq!(rt; out.as_slice(), [3, 5].as_slice());
+        assert_eq!(rt; number_of(&[3, 5], 5), Some(20));
+        text_of(1309, 7, &mut out);
+        assert_eq!(rt; out.as_slice(), [3, 5, 4, 7].as_slice());
+        text_of(1690, 13, &mut out);
+        assert_eq!(rt; out.as_slice(), [9, 12, 13].as_slice());
+        text_of(702, 9, &mut out);
+        assert_eq!(rt; out.as_slice(), [8, 5, 9].as_slice());
+        assert_eq!(rt; number_of(&[8, 5, 9], 9), Some(702));
+        assert_eq!(rt; number_of(&[], 1), Some(0));
+        Ok(())
+    }
+
+    #[test]
+    fn long_texts(rt: HostRuntime) -> Result<(), Fail> {
+        let mut out = Digits::make(rt.alloc())?;
+        text_of(4_096, 1, &mut out);
+        assert_eq!(rt; out.len(), 4_096);
+        assert_eq!(rt; number_of(out.as_slice(), 1), Some(4_096));
+        text_of(1 << 62, 2, &mut out);
+        assert_eq!(rt; out.len(), 62);
+        assert_eq!(rt; number_of(out.as_slice(), 2), Some(1 << 62));
+        assert_eq!(rt; number_of(&[1; 63], 2), None);
+        Ok(())
+    }
+
+    #[test]
+    fn one_text_after_another(rt: HostRuntime) -> Result<(), Fail> {
+        let mut text = Digits::make(rt.alloc())?;
+        text.advance(5);
+        assert_eq!(rt; text.as_slice(), [1].as_slice());
+        text.clear();
+        text.push(5);
+        text.push(5);
+        text.advance(5);
+        assert_eq!(rt; text.as_slice(), [1, 1, 1].as_slice());
+        text.clear();
+        text.push(3);
+        text.push(5);
+        text.skip(1, 5);
+        assert_eq!(rt; text.as_slice(), [4, 1].as_slice());
+        text.skip(0, 5);
+        assert_eq!(rt; text.as_slice(), [1, 1, 1].as_slice());
+        Ok(())
+    }
 }

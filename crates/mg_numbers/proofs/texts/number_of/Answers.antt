@@ -1,4 +1,4 @@
-use Rattle.std.proofs.Common.{◌≡◌, ℕ, ◌≤◌, ◌+◌, ◌*◌, ◌^◌, arith, get_or, take}
+use Rattle.std.proofs.Common.{◌≡◌, ◌+◌, ◌*◌, arith, get_or, take}
 use Rattle.mg_numbers.specs.Texts.{value, IsDigit}
 use Rattle.mg_numbers.proofs.TextsValues.{digit_at}
 use Rattle.mg_numbers.proofs.TextsSteps.{value-take_more, value_of_front}

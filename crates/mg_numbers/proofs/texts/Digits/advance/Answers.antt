@@ -1,6 +1,5 @@
-use Rattle.std.proofs.Common.{◌≡◌, ℕ, ◌<◌, ◌≤◌, ◌+◌, ◌-◌, sym, ◌∙◌, ap, get_or, set, length, rules, arith}
+use Rattle.std.proofs.Common.{◌≡◌, ◌-◌, get_or, arith}
 use Rattle.std.proofs.lemmas.List.{get_or_read, length-set}
-use Rattle.mg_numbers.specs.Texts.{value}
 use Rattle.mg_numbers.proofs.TextsSteps.{carry_on, carry_lands, carry_out}
 use Rattle.mg_numbers.proofs.texts.Digits.advance.Goals as goal
 
@@ -21,7 +20,7 @@ loop-place-preserved c =
     let read : c.index.result.now ≡ get_or now i 0 = get_or_read now i _ (omega (arith, carrying.within)) c.index.ensures 0 in record {
       carrying = carry_on c.args.base c.args.self.now now c.loop-place.place c.requires.base (omega arith) carrying (omega arith);
       room = rw (length-set now i 1) c.loop-place.invariant.room;
-      capacity = c.loop-place.invariant.capacity
+      capacity = c.loop-place.invariant.capacity;
     }
 
 pub returns-clause-value : goal.returns-clause-value

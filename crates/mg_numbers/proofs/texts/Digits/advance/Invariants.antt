@@ -6,7 +6,7 @@ abbrev pub invariant-loop-place : goal.invariant-loop-place
 invariant-loop-place l = record {
   carrying : Carrying l.base l.fn.self l.self-inside.digits.items l.place;
   room : length l.self-inside.digits.items < 4096;
-  capacity : 4096 ≤ vec_capacity l.self-inside.digits
+  capacity : 4096 ≤ vec_capacity l.self-inside.digits;
 }
 
 abbrev pub decreases-loop-place : goal.decreases-loop-place

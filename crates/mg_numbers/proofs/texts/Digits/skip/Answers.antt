@@ -1,4 +1,4 @@
-use Rattle.std.proofs.Common.{◌≡◌, ℕ, ◌+◌, ◌-◌, List, length, take, ◌∙◌, ap, arith}
+use Rattle.std.proofs.Common.{◌≡◌, ◌+◌, ◌-◌, length, take, ◌∙◌, ap, arith}
 use Rattle.std.proofs.lemmas.List.{length-take-le}
 use Rattle.mg_numbers.specs.Texts.{value}
 use Rattle.mg_numbers.proofs.TextsValues.{IsText-take, length_of_next}
@@ -24,7 +24,8 @@ push_ones-requires c =
       arith,
       long b,
       length-take-le kept old c.requires.within,
-      length_of_next c.args.base (take kept old) c.advance.new.self c.requires.base (IsText-take c.args.base kept old c.requires.text) c.advance.ensures.text (after b))
+      length_of_next c.args.base (take kept old) c.advance.new.self c.requires.base (IsText-take c.args.base kept old c.requires.text) c.advance.ensures.text (after b),
+    )
 
 pub returns-clause-text : goal.returns-clause-text
 returns-clause-text c =
