@@ -117,7 +117,7 @@ Inserts-before m rs a u v i = record {
   after = i.after;
   is_piece = i.is_piece;
   without = ap (λ t. a ++ t) i.without ∙ sym (append_assoc a i.before i.after);
-  with_it = ap (λ t. a ++ t) i.with_it ∙ sym (append_assoc a i.before (i.piece ++ i.after))
+  with_it = ap (λ t. a ++ t) i.with_it ∙ sym (append_assoc a i.before (i.piece ++ i.after));
 }
 
 Inserts-after : (m : ℕ) (rs : List (List ℤ)) (b u v : List ℤ) → Inserts m rs u v → Inserts m rs (u ++ b) (v ++ b)
@@ -127,7 +127,7 @@ Inserts-after m rs b u v i = record {
   after = i.after ++ b;
   is_piece = i.is_piece;
   without = ap (λ t. t ++ b) i.without ∙ append_assoc i.before i.after b;
-  with_it = ap (λ t. t ++ b) i.with_it ∙ (append_assoc i.before (i.piece ++ i.after) b ∙ ap (λ t. i.before ++ t) (append_assoc i.piece i.after b))
+  with_it = ap (λ t. t ++ b) i.with_it ∙ (append_assoc i.before (i.piece ++ i.after) b ∙ ap (λ t. i.before ++ t) (append_assoc i.piece i.after b));
 }
 
 -- products keep chains
@@ -157,7 +157,7 @@ Inserts-inv m rs u v i = record {
   after = inv i.before;
   is_piece = IsPiece-inv m rs i.piece i.is_piece;
   without = ap inv i.without ∙ inv-append i.before i.after;
-  with_it = ap inv i.with_it ∙ (inv-append i.before (i.piece ++ i.after) ∙ (ap (λ t. t ++ inv i.before) (inv-append i.piece i.after) ∙ append_assoc (inv i.after) (inv i.piece) (inv i.before)))
+  with_it = ap inv i.with_it ∙ (inv-append i.before (i.piece ++ i.after) ∙ (ap (λ t. t ++ inv i.before) (inv-append i.piece i.after) ∙ append_assoc (inv i.after) (inv i.piece) (inv i.before)));
 }
 
 pub Same-inv : (m : ℕ) (rs : List (List ℤ)) (u v : List ℤ) → Same m rs u v → Same m rs (inv u) (inv v)
