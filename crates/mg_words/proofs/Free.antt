@@ -1,7 +1,6 @@
 -- The normal form of a word in the free group: each letter in turn, from the last to the first, is put
 -- before a reduced word. Two words are freely equal exactly where their normal forms are one.
-use Rattle.std.proofs.Common.{◌≡◌, ◌≢◌, ℕ, zero, suc, ◌+◌, ◌-◌, ◌<◌, ◌≤◌, Bool, true, false, cond, ℤ, pos, negsuc, neg_ℤ, List, [], ◌∷◌, ◌++◌, map, reverse, length, get_or, take, drop, refl, sym, ap, subst, ◌∙◌, ◌⊎◌, inl, inr, append_assoc, arith}
-use Rattle.std.specs.Prelude.{Contains}
+use Rattle.std.proofs.Common.{◌≡◌, ◌≢◌, ℕ, suc, ◌+◌, ◌-◌, ◌<◌, ◌≤◌, Bool, true, false, cond, ℤ, pos, neg_ℤ, List, [], ◌∷◌, ◌++◌, map, length, get_or, take, drop, refl, sym, ap, subst, ◌∙◌, ◌⊎◌, inl, inr, append_assoc, arith}
 use Rattle.std.specs.Bool.{Decides, ◌==◌}
 use Rattle.std.specs.Ordering.{int_eq}
 use Rattle.std.proofs.Math.IntN.{neg_ℤ-neg_ℤ}
@@ -10,9 +9,9 @@ use Rattle.std.proofs.lemmas.Bool.Decides.{Decides-int_eq, Decides-eqb}
 use Rattle.std.proofs.lemmas.List.{append-nil, same_from_push, length-append, length_push, length-take, take-append-drop, take_more, take_all, drop_more, get_or_at, get_or_read, map-append, length-map, nil_from_length}
 use Rattle.mg_words.specs.Letter.{IsLetterOf}
 use Rattle.mg_words.specs.Word.{inv, IsOver, IsReduced}
-use Rattle.mg_words.specs.Chain.{IsPiece, a_pair, a_relator, an_inverse, Inserts, Step, Leads, Same, FreelyEqual}
+use Rattle.mg_words.specs.Chain.{IsPiece, a_pair, a_relator, an_inverse, Inserts, Step, Leads, FreelyEqual}
 use Rattle.mg_words.specs.Reduction.{PushesReduced}
-use Rattle.mg_words.proofs.Chains.{inv-append, inv-cons, inv-push, inv-inv, IsOver-append, IsOver-left, IsOver-inv, none_contained, Same-refl, Same-equal, Same-trans, Same-sym, Same-before, Same-pair}
+use Rattle.mg_words.proofs.Chains.{inv-append, inv-cons, inv-inv, IsOver-append, IsOver-left, none_contained, Same-refl, Same-equal, Same-trans, Same-sym, Same-before, Same-pair}
 
 -- a word times one letter on the left
 abbrev pub cancel : ℤ → List ℤ → List ℤ

@@ -1,5 +1,4 @@
-use Rattle.std.proofs.Common.{◌≡◌, ◌≢◌, ℕ, ◌+◌, ◌-◌, ◌<◌, List, ℤ, pos, neg_ℤ, length, get_or, refl, sym, subst, ap, ◌∙◌, arith, IsTrue}
-use Rattle.std.proofs.lemmas.List.{get_or_read}
+use Rattle.std.proofs.Common.{◌≡◌, ◌≢◌, ℕ, ◌+◌, ◌<◌, List, ℤ, pos, neg_ℤ, length, get_or, refl, sym, subst, arith}
 use Rattle.mg_words.specs.Word.{IsReduced}
 use Rattle.mg_words.proofs.Free.{undone_read, reduced_by_places}
 use Rattle.mg_words.proofs.reduction.is_reduced.Goals as goal

@@ -1,4 +1,4 @@
-use Rattle.std.proofs.Common.{◌≡◌, ℕ, ◌+◌, ◌<◌, ◌≢◌, pos, neg_ℤ, get_or}
+use Rattle.std.proofs.Common.{ℕ, ◌+◌, ◌<◌, ◌≢◌, pos, neg_ℤ, get_or}
 use Rattle.mg_words.proofs.reduction.is_reduced.Given as goal
 
 -- before the place no letter stands next to its inverse

@@ -1,5 +1,4 @@
-use Rattle.mg_words.proofs.Free.{IsReduced-pushed, pushes_by_append}
-use Rattle.std.proofs.Common.{List, ℤ, ◌≡◌, sym, subst, ◌++◌, ◌∷◌, []}
+use Rattle.std.proofs.Common.{List, ℤ, sym, subst}
 use Rattle.mg_words.specs.Word.{IsReduced}
 use Rattle.mg_words.proofs.Free.{IsReduced-push}
 use Rattle.mg_words.proofs.reduction.push_reduced.Goals as goal

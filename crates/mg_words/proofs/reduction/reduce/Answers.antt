@@ -1,5 +1,5 @@
-use Rattle.std.proofs.Common.{◌≡◌, ◌+◌, ◌≤◌, ◌<◌, List, ℤ, length, sym, subst, ap, ◌∙◌, arith}
-use Rattle.mg_words.specs.Word.{IsOver, IsReduced}
+use Rattle.std.proofs.Common.{◌≡◌, List, ℤ, sym, subst, ap, ◌∙◌, arith}
+use Rattle.mg_words.specs.Word.{IsOver}
 use Rattle.mg_words.specs.Chain.{FreelyEqual}
 use Rattle.mg_words.proofs.Free.{free_form, reduced_as_form, pushed_next, pushed_room, pushed_all, free_form-freely, IsOver-free_form}
 use Rattle.std.proofs.Common.{take}
