@@ -1,4 +1,3 @@
 pub mod Presentation
 pub mod Ask
 pub mod Same
-pub mod Orders

@@ -1,7 +1,10 @@
 //! Presentations of groups.
-ghost use Rattle.std.specs.Prelude.{◌≡◌, ◌<◌, IfOk, slice_get, Some, length};
+ghost use Rattle.std.specs.Prelude.{◌≡◌, ◌<◌, ◌≤◌, ◌↔◌, [], IfOk, IsTrue, slice_get, Some, length};
+ghost use Rattle.std.specs.List.{AllByRecursion};
+ghost use Rattle.mg_words.specs.Word.{letters_of};
+ghost use Rattle.mg_present.specs.Presentation.{Fits, IsRelator};
 
-use mg_words::{NoMemory, Word, Words};
+use mg_words::{NoMemory, Word, Words, is_over, is_reduced};
 use std::alloc::Global;
 use std::marker::Model;
 
@@ -13,6 +16,33 @@ pub const MOST_RELATORS: usize = 256;
 
 /// How many letters a relator may have.
 pub const MOST_RELATOR_LETTERS: usize = 10_000;
+
+/// Whether a presentation may have this many generators and these relators.
+pub fn fits(generators: u32, relators: &Words) -> bool
+    ensures { IsTrue result ↔ Fits generators relators.now }
+{
+    let few = generators <= MOST_GENERATORS && relators.len() <= MOST_RELATORS;
+    few && are_relators(generators, relators.as_slice())
+}
+
+/// Whether each word may be a relator.
+fn are_relators(generators: u32, words: &[Word]) -> bool
+    ensures { IsTrue result ↔ AllByRecursion (IsRelator generators) (letters_of words.now) }
+{
+    for w in words {
+        if !is_relator(generators, w) {
+            return false;
+        }
+    }
+    true
+}
+
+/// Whether the word may be a relator.
+fn is_relator(generators: u32, w: &Word) -> bool
+    ensures { IsTrue result ↔ IsRelator generators w.now.letters }
+{
+    w.letters().len() <= MOST_RELATOR_LETTERS && is_over(generators, w) && is_reduced(w)
+}
 
 /// A group by generators and relators. The generators are the letters x1, x2 and so on; they have no
 /// names here. Presentations are compared by their whole content.
@@ -35,7 +65,7 @@ impl Model for Presentation {
 }
 
 impl Presentation {
-    ghost use Rattle.mg_present.specs.Presentation.{Fits, IsPresented};
+    ghost use Rattle.mg_present.specs.Presentation.{IsPresented};
 
     /// The presentation with this many generators and these relators.
     pub fn new(generators: u32, relators: Words) -> Presentation
@@ -47,6 +77,15 @@ impl Presentation {
             generators,
             relators,
         }
+    }
+
+    /// The presentation without relators.
+    pub fn free(alloc: Global, generators: u32) -> Presentation
+        requires { generators ≤ MOST_GENERATORS }
+        ensures generators { result.generators ≡ generators }
+        ensures relators { result.relators ≡ [] }
+    {
+        Presentation::new(generators, Words::new(alloc))
     }
 
     /// How many generators there are.

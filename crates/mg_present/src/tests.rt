@@ -1,0 +1,55 @@
+use super::*;
+use mg_words::{Letter, Word, Words};
+use std::alloc::Global;
+use std::cmp::Ordering;
+use std::test::Fail;
+
+const A: Letter = Letter {
+    generator: 1,
+    inverse: false,
+};
+
+fn one_word(alloc: Global, letters: &[Letter]) -> Result<Words, NoMemory> {
+    let mut words = Words::new(alloc);
+    words.push(Word::from_letters(alloc, letters)?)?;
+    Ok(words)
+}
+
+#[test]
+fn relators_are_reduced_words_over_the_generators(rt: HostRuntime) -> Result<(), Fail> {
+    let b = Letter {
+        generator: 2,
+        inverse: false,
+    };
+    for (letters, fitting) in [([A, A], true), ([A, A.inverted()], false), ([A, b], false)] {
+        let words = one_word(rt.alloc(), &letters)?;
+        assert_eq!(rt; fits(1, &words), fitting);
+    }
+    Ok(())
+}
+
+#[test]
+fn presentations_are_compared_by_content(rt: HostRuntime) -> Result<(), Fail> {
+    let alloc = rt.alloc();
+    let relators = one_word(alloc, &[A, A])?;
+    assert!(rt; fits(1, &relators));
+    let group = Presentation::new(1, relators);
+    let same = group.copy(alloc)?;
+    assert_eq!(rt; same.cmp(&group), Ordering::Equal);
+    assert!(rt; Presentation::free(alloc, 1) < group);
+    assert_eq!(rt; group.relators().len(), 1);
+    Ok(())
+}
+
+#[test]
+fn asks_keep_what_is_asked(rt: HostRuntime) -> Result<(), Fail> {
+    let alloc = rt.alloc();
+    let group = Presentation::free(alloc, 1);
+    let ask = Ask::new(group, Words::new(alloc), Words::new(alloc));
+    let same = ask.copy(alloc)?;
+    assert!(rt; same == ask);
+    assert_eq!(rt; ask.group().generators(), 1);
+    assert_eq!(rt; ask.subgroup().len(), 0);
+    assert_eq!(rt; ask.goals().len(), 0);
+    Ok(())
+}
