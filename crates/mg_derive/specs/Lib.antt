@@ -1,0 +1,4 @@
+pub mod Symbols
+pub mod Acceptance
+pub mod Room
+pub mod Search
