@@ -2,3 +2,4 @@ pub mod Letter
 pub mod Word
 pub mod Chain
 pub mod Orders
+pub mod Reduction

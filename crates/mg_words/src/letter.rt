@@ -49,4 +49,11 @@ impl Letter {
     {
         self.generator == other.generator && self.inverse != other.inverse
     }
+
+    // Whether it is one of the first `generators` generators or the inverse of one.
+    pub(crate) fn is_of(self, generators: u32) -> bool
+        ensures { IsTrue result ↔ IsLetterOf generators self }
+    {
+        u32::from(self.generator) <= generators
+    }
 }

@@ -1,5 +1,5 @@
 //! One word.
-ghost use Rattle.std.specs.Prelude.{◌≡◌, ℕ, ◌+◌, ◌≤◌, [], ◌∷◌, ◌++◌, IfOk, OnOk, length};
+ghost use Rattle.std.specs.Prelude.{◌≡◌, ℕ, ℤ, neg_ℤ, ◌+◌, ◌<◌, ◌≤◌, ◌↔◌, IsTrue, List, [], ◌∷◌, ◌++◌, IfOk, OnOk, length};
 ghost use Rattle.std.proofs.Common.{rules};
 ghost use Rattle.std.specs.Ordering.{as_partial_cmp, eq_by_cmp};
 ghost use Rattle.std.specs.Cmp.{partial_order_from_own_ties};
@@ -76,6 +76,37 @@ impl Word {
         ensures capacity { self.old.capacity ≤ self.new.capacity }
     {
         self.letters.clear();
+    }
+
+    // Whether the last letter is the inverse of `x`.
+    pub(crate) fn ends_with_inverse_of(&self, x: Letter) -> bool
+        ensures { IsTrue result ↔ ((rest : List ℤ) × (self.now.letters ≡ rest ++ neg_ℤ x ∷ [])) }
+    {
+        match self.letters.last() {
+            Some(last) => last.undoes(x),
+            None => false,
+        }
+    }
+
+    // Takes the last letter away.
+    pub(crate) fn drop_last(&mut self)
+        requires { 0 < length self.old.letters }
+        ensures rest { (x : ℤ) × (self.old.letters ≡ self.new.letters ++ x ∷ []) }
+        ensures capacity { self.old.capacity ≤ self.new.capacity }
+    {
+        let _ = self.letters.pop();
+    }
+
+    // Appends a letter, for which there is room.
+    pub(crate) fn append(&mut self, x: Letter)
+        requires { length self.old.letters + 1 ≤ self.old.capacity }
+        ensures letters { self.new.letters ≡ self.old.letters ++ x ∷ [] }
+        ensures capacity { self.old.capacity ≤ self.new.capacity }
+    {
+        match self.letters.push(x) {
+            Ok(()) => {}
+            Err(_) => unreachable!(),
+        }
     }
 }
 
