@@ -2,15 +2,9 @@
 //! subgroup, the checker of them, and the search through them in the order of their numbers.
 #![tactic(auto)]
 
-mod buffers;
-mod checker;
 mod derivation;
-mod search;
 mod symbol;
 
-pub use buffers::Buffers;
-pub use checker::accepts;
 pub use derivation::Derivation;
 pub use mg_words::NoMemory;
-pub use search::{Advance, Enumeration};
 pub use symbol::Symbol;
