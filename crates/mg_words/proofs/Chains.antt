@@ -1,10 +1,10 @@
 -- Chains of steps: they join, turn round, and are kept by products and by inverses.
-use Rattle.std.proofs.Common.{◌≡◌, ℕ, zero, suc, ◌+◌, ◌<◌, ◌≤◌, ℤ, pos, negsuc, neg_ℤ, List, [], ◌∷◌, ◌++◌, map, reverse, length, get_or, refl, sym, ap, subst, ◌∙◌, ◌⊎◌, inl, inr, append_assoc, arith}
+use Rattle.std.proofs.Common.{◌≡◌, ℕ, zero, suc, ◌+◌, ◌≤◌, ℤ, pos, negsuc, neg_ℤ, List, [], ◌∷◌, ◌++◌, map, reverse, refl, sym, ap, subst, ◌∙◌, inl, inr, append_assoc, add-one, arith}
 use Rattle.std.specs.Prelude.{Contains}
 use Rattle.std.proofs.Math.IntN.{neg_ℤ-neg_ℤ}
-use Rattle.std.proofs.lemmas.List.{append-nil, map-append, reverse-append, reverse-reverse}
+use Rattle.std.proofs.lemmas.List.{append-nil, map-append, reverse-append}
 use Rattle.mg_words.specs.Letter.{IsLetterOf}
-use Rattle.mg_words.specs.Word.{inv, IsOver}
+use Rattle.mg_words.specs.Word.{inv, times, IsOver}
 use Rattle.mg_words.specs.Chain.{IsPiece, a_pair, a_relator, an_inverse, Inserts, Step, Leads, Same, FreelyEqual}
 
 -- the inverse of a product is the product of the inverses in the other order
@@ -117,7 +117,7 @@ Inserts-before m rs a u v i = record {
   after = i.after;
   is_piece = i.is_piece;
   without = ap (λ t. a ++ t) i.without ∙ sym (append_assoc a i.before i.after);
-  with_it = ap (λ t. a ++ t) i.with_it ∙ sym (append_assoc a i.before (i.piece ++ i.after))
+  with_it = ap (λ t. a ++ t) i.with_it ∙ sym (append_assoc a i.before (i.piece ++ i.after));
 }
 
 Inserts-after : (m : ℕ) (rs : List (List ℤ)) (b u v : List ℤ) → Inserts m rs u v → Inserts m rs (u ++ b) (v ++ b)
@@ -127,7 +127,7 @@ Inserts-after m rs b u v i = record {
   after = i.after ++ b;
   is_piece = i.is_piece;
   without = ap (λ t. t ++ b) i.without ∙ append_assoc i.before i.after b;
-  with_it = ap (λ t. t ++ b) i.with_it ∙ (append_assoc i.before (i.piece ++ i.after) b ∙ ap (λ t. i.before ++ t) (append_assoc i.piece i.after b))
+  with_it = ap (λ t. t ++ b) i.with_it ∙ (append_assoc i.before (i.piece ++ i.after) b ∙ ap (λ t. i.before ++ t) (append_assoc i.piece i.after b));
 }
 
 -- products keep chains
@@ -157,7 +157,7 @@ Inserts-inv m rs u v i = record {
   after = inv i.before;
   is_piece = IsPiece-inv m rs i.piece i.is_piece;
   without = ap inv i.without ∙ inv-append i.before i.after;
-  with_it = ap inv i.with_it ∙ (inv-append i.before (i.piece ++ i.after) ∙ (ap (λ t. t ++ inv i.before) (inv-append i.piece i.after) ∙ append_assoc (inv i.after) (inv i.piece) (inv i.before)))
+  with_it = ap inv i.with_it ∙ (inv-append i.before (i.piece ++ i.after) ∙ (ap (λ t. t ++ inv i.before) (inv-append i.piece i.after) ∙ append_assoc (inv i.after) (inv i.piece) (inv i.before)));
 }
 
 pub Same-inv : (m : ℕ) (rs : List (List ℤ)) (u v : List ℤ) → Same m rs u v → Same m rs (inv u) (inv v)
@@ -215,3 +215,19 @@ Same-times_inverse m rs (x ∷ w) h =
 pub Same-inverse_times : (m : ℕ) (rs : List (List ℤ)) (w : List ℤ) → IsOver m w → Same m rs (inv w ++ w) []
 Same-inverse_times m rs w h =
     subst (λ (t : List ℤ). Same m rs (inv w ++ t) []) (inv-inv w) (Same-times_inverse m rs (inv w) (IsOver-inv m w h))
+
+-- powers
+times-turn : (k : ℕ) (w : List ℤ) → times k w ++ w ≡ w ++ times k w
+times-turn zero w = sym (append-nil w)
+times-turn (suc k) w = append_assoc w (times k w) w ∙ ap (λ t. w ++ t) (times-turn k w)
+
+pub times-push : (k : ℕ) (w : List ℤ) → times (k + 1) w ≡ times k w ++ w
+times-push k w = ap (λ n. times n w) (add-one k) ∙ sym (times-turn k w)
+
+pub times-nil : (k : ℕ) → times k [] ≡ []
+times-nil zero = refl
+times-nil (suc k) = times-nil k
+
+-- the empty word is its own power
+pub times-empty : (k : ℕ) (w : List ℤ) → w ≡ [] → [] ≡ times k w
+times-empty k w e = sym (ap (times k) e ∙ times-nil k)

@@ -1,18 +1,17 @@
 -- The normal form of a word in the free group: each letter in turn, from the last to the first, is put
 -- before a reduced word. Two words are freely equal exactly where their normal forms are one.
-use Rattle.std.proofs.Common.{◌≡◌, ◌≢◌, ℕ, zero, suc, ◌+◌, ◌<◌, ◌≤◌, Bool, true, false, cond, ℤ, pos, negsuc, neg_ℤ, List, [], ◌∷◌, ◌++◌, map, reverse, length, refl, sym, ap, subst, ◌∙◌, ◌⊎◌, inl, inr, append_assoc, arith}
-use Rattle.std.specs.Prelude.{Contains}
-use Rattle.std.specs.Bool.{Decides}
+use Rattle.std.proofs.Common.{◌≡◌, ◌≢◌, ℕ, suc, ◌+◌, ◌-◌, ◌<◌, ◌≤◌, Bool, true, false, cond, ℤ, pos, neg_ℤ, List, [], ◌∷◌, ◌++◌, map, length, get_or, take, drop, refl, sym, ap, subst, ◌∙◌, ◌⊎◌, inl, inr, append_assoc, arith}
+use Rattle.std.specs.Bool.{Decides, ◌==◌}
 use Rattle.std.specs.Ordering.{int_eq}
 use Rattle.std.proofs.Math.IntN.{neg_ℤ-neg_ℤ}
 use Rattle.std.proofs.lemmas.Bool.{false≢true}
-use Rattle.std.proofs.lemmas.Bool.Decides.{Decides-int_eq}
-use Rattle.std.proofs.lemmas.List.{append-nil, same_from_push, length-append}
+use Rattle.std.proofs.lemmas.Bool.Decides.{Decides-int_eq, Decides-eqb}
+use Rattle.std.proofs.lemmas.List.{append-nil, same_from_push, length-append, length_push, length-take, take-append-drop, take_more, take_all, drop_more, get_or_at, get_or_read, map-append, length-map, nil_from_length}
 use Rattle.mg_words.specs.Letter.{IsLetterOf}
 use Rattle.mg_words.specs.Word.{inv, IsOver, IsReduced}
-use Rattle.mg_words.specs.Chain.{IsPiece, a_pair, a_relator, an_inverse, Inserts, Step, Leads, Same, FreelyEqual}
+use Rattle.mg_words.specs.Chain.{IsPiece, a_pair, a_relator, an_inverse, Inserts, Step, Leads, FreelyEqual}
 use Rattle.mg_words.specs.Reduction.{PushesReduced}
-use Rattle.mg_words.proofs.Chains.{inv-append, inv-cons, inv-push, inv-inv, IsOver-append, IsOver-left, IsOver-inv, none_contained, Same-refl, Same-equal, Same-trans, Same-sym, Same-before, Same-pair}
+use Rattle.mg_words.proofs.Chains.{inv-append, inv-cons, inv-inv, IsOver-append, IsOver-left, none_contained, Same-refl, Same-equal, Same-trans, Same-sym, Same-before, Same-pair}
 
 -- a word times one letter on the left
 abbrev pub cancel : ℤ → List ℤ → List ℤ
@@ -72,8 +71,8 @@ cancel-apart : (x : ℤ) (w : List ℤ) → IsApart w → IsApart (cancel x w)
 cancel-apart x [] h = (tt, tt)
 cancel-apart x (y ∷ w) h =
     elim (same_or_not y (neg_ℤ x)) as (λ _. IsApart (cancel x (y ∷ w))) [
-      inl e ↦ subst (λ (t : List ℤ). IsApart t) (sym (cancel-hit x y w e)) h.1
-    | inr n ↦ subst (λ (t : List ℤ). IsApart t) (sym (cancel-miss x y w n)) (n, h)
+      | inl e ↦ subst (λ (t : List ℤ). IsApart t) (sym (cancel-hit x y w e)) h.1
+      | inr n ↦ subst (λ (t : List ℤ). IsApart t) (sym (cancel-miss x y w n)) (n, h)
     ]
 
 cancel-front : (x : ℤ) (w : List ℤ) → Apart x w → cancel x w ≡ x ∷ w
@@ -85,9 +84,9 @@ pub cancel-cancel : (x : ℤ) (w : List ℤ) → IsApart w → cancel x (cancel 
 cancel-cancel x [] h = cancel-hit x (neg_ℤ x) [] refl
 cancel-cancel x (y ∷ w) h =
     elim (same_or_not y (neg_ℤ (neg_ℤ x))) as (λ _. cancel x (cancel (neg_ℤ x) (y ∷ w)) ≡ y ∷ w) [
-      inl e ↦ let k : y ≡ x = e ∙ neg_ℤ-neg_ℤ x in
-        ap (cancel x) (cancel-hit (neg_ℤ x) y w e) ∙ (cancel-front x w (subst (λ (z : ℤ). Apart z w) k h.0) ∙ ap (λ z. z ∷ w) (sym k))
-    | inr n ↦ ap (cancel x) (cancel-miss (neg_ℤ x) y w n) ∙ cancel-hit x (neg_ℤ x) (y ∷ w) refl
+      | inl e ↦ let k : y ≡ x = e ∙ neg_ℤ-neg_ℤ x in
+          ap (cancel x) (cancel-hit (neg_ℤ x) y w e) ∙ (cancel-front x w (subst (λ (z : ℤ). Apart z w) k h.0) ∙ ap (λ z. z ∷ w) (sym k))
+      | inr n ↦ ap (cancel x) (cancel-miss (neg_ℤ x) y w n) ∙ cancel-hit x (neg_ℤ x) (y ∷ w) refl
     ]
 
 pub onto-append : (a b w : List ℤ) → onto (a ++ b) w ≡ onto a (onto b w)
@@ -109,8 +108,8 @@ onto-cancel : (x : ℤ) (a w : List ℤ) → IsApart w → onto (cancel x a) w �
 onto-cancel x [] w h = refl
 onto-cancel x (y ∷ a) w h =
     elim (same_or_not y (neg_ℤ x)) as (λ _. onto (cancel x (y ∷ a)) w ≡ cancel x (onto (y ∷ a) w)) [
-      inl e ↦ ap (λ t. onto t w) (cancel-hit x y a e) ∙ sym (ap (λ z. cancel x (cancel z (onto a w))) e ∙ cancel-cancel x (onto a w) (onto-apart a w h))
-    | inr n ↦ ap (λ t. onto t w) (cancel-miss x y a n)
+      | inl e ↦ ap (λ t. onto t w) (cancel-hit x y a e) ∙ sym (ap (λ z. cancel x (cancel z (onto a w))) e ∙ cancel-cancel x (onto a w) (onto-apart a w h))
+      | inr n ↦ ap (λ t. onto t w) (cancel-miss x y a n)
     ]
 
 onto-form : (a w : List ℤ) → IsApart w → onto (free_form a) w ≡ onto a w
@@ -174,9 +173,9 @@ cancel-freely : (m : ℕ) (x : ℤ) (w : List ℤ) → IsLetterOf m x → Freely
 cancel-freely m x [] l = Same-refl m [] (x ∷ [])
 cancel-freely m x (y ∷ w) l =
     elim (same_or_not y (neg_ℤ x)) as (λ _. FreelyEqual m (x ∷ (y ∷ w)) (cancel x (y ∷ w))) [
-      inl e ↦ subst (λ (t : List ℤ). FreelyEqual m (x ∷ (y ∷ w)) t) (sym (cancel-hit x y w e))
-        (subst (λ (z : ℤ). FreelyEqual m (x ∷ (z ∷ w)) w) (sym e) (Same-pair m [] [] x w l))
-    | inr n ↦ Same-equal m [] (x ∷ (y ∷ w)) (cancel x (y ∷ w)) (sym (cancel-miss x y w n))
+      | inl e ↦ subst (λ (t : List ℤ). FreelyEqual m (x ∷ (y ∷ w)) t) (sym (cancel-hit x y w e))
+          (subst (λ (z : ℤ). FreelyEqual m (x ∷ (z ∷ w)) w) (sym e) (Same-pair m [] [] x w l))
+      | inr n ↦ Same-equal m [] (x ∷ (y ∷ w)) (cancel x (y ∷ w)) (sym (cancel-miss x y w n))
     ]
 
 pub free_form-freely : (m : ℕ) (u : List ℤ) → IsOver m u → FreelyEqual m u (free_form u)
@@ -188,8 +187,8 @@ cancel-over : (m : ℕ) (x : ℤ) (w : List ℤ) → IsLetterOf m x → IsOver m
 cancel-over m x [] l h = (l, tt)
 cancel-over m x (y ∷ w) l h =
     elim (same_or_not y (neg_ℤ x)) as (λ _. IsOver m (cancel x (y ∷ w))) [
-      inl e ↦ subst (λ (t : List ℤ). IsOver m t) (sym (cancel-hit x y w e)) h.1
-    | inr n ↦ subst (λ (t : List ℤ). IsOver m t) (sym (cancel-miss x y w n)) (l, h)
+      | inl e ↦ subst (λ (t : List ℤ). IsOver m t) (sym (cancel-hit x y w e)) h.1
+      | inr n ↦ subst (λ (t : List ℤ). IsOver m t) (sym (cancel-miss x y w n)) (l, h)
     ]
 
 pub IsOver-free_form : (m : ℕ) (u : List ℤ) → IsOver m u → IsOver m (free_form u)
@@ -216,9 +215,9 @@ cancel-inverse : (x : ℤ) (r : List ℤ) → free_form (inv (x ∷ r)) ≡ free
 cancel-inverse x [] = refl
 cancel-inverse x (y ∷ r) =
     elim (same_or_not y (neg_ℤ x)) as (λ _. free_form (inv (x ∷ (y ∷ r))) ≡ free_form (inv (cancel x (y ∷ r)))) [
-      inl e ↦ ap free_form (inv-append (x ∷ y ∷ []) r) ∙ (ap (λ z. free_form (inv r ++ neg_ℤ z ∷ neg_ℤ x ∷ [])) e ∙ (ap (λ z. free_form (inv r ++ z ∷ neg_ℤ x ∷ [])) (neg_ℤ-neg_ℤ x)
-        ∙ (free_form-pair (inv r) x [] ∙ (ap free_form (append-nil (inv r)) ∙ ap (λ t. free_form (inv t)) (sym (cancel-hit x y r e))))))
-    | inr n ↦ ap (λ t. free_form (inv t)) (sym (cancel-miss x y r n))
+      | inl e ↦ ap free_form (inv-append (x ∷ y ∷ []) r) ∙ (ap (λ z. free_form (inv r ++ neg_ℤ z ∷ neg_ℤ x ∷ [])) e ∙ (ap (λ z. free_form (inv r ++ z ∷ neg_ℤ x ∷ [])) (neg_ℤ-neg_ℤ x)
+          ∙ (free_form-pair (inv r) x [] ∙ (ap free_form (append-nil (inv r)) ∙ ap (λ t. free_form (inv t)) (sym (cancel-hit x y r e))))))
+      | inr n ↦ ap (λ t. free_form (inv t)) (sym (cancel-miss x y r n))
     ]
 
 form_of_inverse : (w : List ℤ) → free_form (inv w) ≡ free_form (inv (free_form w))
@@ -253,8 +252,8 @@ cancel-length : (x : ℤ) (w : List ℤ) → length (cancel x w) ≤ suc (length
 cancel-length x [] = omega arith
 cancel-length x (y ∷ w) =
     elim (same_or_not y (neg_ℤ x)) as (λ _. length (cancel x (y ∷ w)) ≤ suc (length (y ∷ w))) [
-      inl e ↦ omega (arith, ap length (cancel-hit x y w e))
-    | inr n ↦ omega (arith, ap length (cancel-miss x y w n))
+      | inl e ↦ omega (arith, ap length (cancel-hit x y w e))
+      | inr n ↦ omega (arith, ap length (cancel-miss x y w n))
     ]
 
 pub free_form-length : (w : List ℤ) → length (free_form w) ≤ length w
@@ -266,8 +265,8 @@ pub last_of : (w : List ℤ) → (w ≡ []) ⊎ ((rest : List ℤ) × (x : ℤ) 
 last_of [] = inl refl
 last_of (x ∷ w) =
     elim (last_of w) as (λ _. (x ∷ w ≡ []) ⊎ ((rest : List ℤ) × (y : ℤ) × (x ∷ w ≡ rest ++ y ∷ []))) [
-      inl e ↦ inr ([], x, ap (λ t. x ∷ t) e)
-    | inr s ↦ inr (x ∷ s.0, s.1, ap (λ t. x ∷ t) s.2)
+      | inl e ↦ inr ([], x, ap (λ t. x ∷ t) e)
+      | inr s ↦ inr (x ∷ s.0, s.1, ap (λ t. x ∷ t) s.2)
     ]
 
 empty_not_push : (rest : List ℤ) (y : ℤ) → [] ≢ rest ++ y ∷ []
@@ -278,10 +277,10 @@ empty_not_push (x ∷ rest) y e = cc
 pub ends_or_not : (y : ℤ) (w : List ℤ) → ((rest : List ℤ) × (w ≡ rest ++ y ∷ [])) ⊎ ((rest : List ℤ) → w ≢ rest ++ y ∷ [])
 ends_or_not y w =
     elim (last_of w) as (λ _. ((rest : List ℤ) × (w ≡ rest ++ y ∷ [])) ⊎ ((rest : List ℤ) → w ≢ rest ++ y ∷ [])) [
-      inl e ↦ inr (λ rest k. empty_not_push rest y (sym e ∙ k))
-    | inr s ↦ elim (same_or_not s.1 y) as (λ _. ((rest : List ℤ) × (w ≡ rest ++ y ∷ [])) ⊎ ((rest : List ℤ) → w ≢ rest ++ y ∷ [])) [
-        inl e ↦ inl (s.0, s.2 ∙ ap (λ z. s.0 ++ z ∷ []) e)
-      | inr n ↦ inr (λ rest k. n (same_from_push s.0 rest s.1 y (sym s.2 ∙ k)).1)
+      | inl e ↦ inr (λ rest k. empty_not_push rest y (sym e ∙ k))
+      | inr s ↦ elim (same_or_not s.1 y) as (λ _. ((rest : List ℤ) × (w ≡ rest ++ y ∷ [])) ⊎ ((rest : List ℤ) → w ≢ rest ++ y ∷ [])) [
+        | inl e ↦ inl (s.0, s.2 ∙ ap (λ z. s.0 ++ z ∷ []) e)
+        | inr n ↦ inr (λ rest k. n (same_from_push s.0 rest s.1 y (sym s.2 ∙ k)).1)
       ]
     ]
 
@@ -300,17 +299,17 @@ IsReduced-nil = reduced_from_apart [] tt
 pub IsReduced-push : (w : List ℤ) (x : ℤ) → IsReduced w → ((rest : List ℤ) → w ≢ rest ++ neg_ℤ x ∷ []) → IsReduced (w ++ x ∷ [])
 IsReduced-push w x h n before after z e =
     elim (last_of after) as (λ _. ⊥) [
-      inl k ↦ let s = same_from_push w (before ++ z ∷ []) x (neg_ℤ z) (e ∙ (ap (λ t. before ++ z ∷ neg_ℤ z ∷ t) k ∙ sym (append_assoc before (z ∷ []) (neg_ℤ z ∷ [])))) in
-        n before (s.0 ∙ ap (λ y. before ++ y ∷ []) (sym (ap neg_ℤ s.1 ∙ neg_ℤ-neg_ℤ z)))
-    | inr k ↦ let s = same_from_push w (before ++ z ∷ neg_ℤ z ∷ k.0) x k.1 (e ∙ (ap (λ t. before ++ z ∷ neg_ℤ z ∷ t) k.2 ∙ sym (append_assoc before (z ∷ neg_ℤ z ∷ k.0) (k.1 ∷ [])))) in
-        h before k.0 z s.0
+      | inl k ↦ let s = same_from_push w (before ++ z ∷ []) x (neg_ℤ z) (e ∙ (ap (λ t. before ++ z ∷ neg_ℤ z ∷ t) k ∙ sym (append_assoc before (z ∷ []) (neg_ℤ z ∷ [])))) in
+          n before (s.0 ∙ ap (λ y. before ++ y ∷ []) (sym (ap neg_ℤ s.1 ∙ neg_ℤ-neg_ℤ z)))
+      | inr k ↦ let s = same_from_push w (before ++ z ∷ neg_ℤ z ∷ k.0) x k.1 (e ∙ (ap (λ t. before ++ z ∷ neg_ℤ z ∷ t) k.2 ∙ sym (append_assoc before (z ∷ neg_ℤ z ∷ k.0) (k.1 ∷ [])))) in
+          h before k.0 z s.0
     ]
 
 -- what a reducing push makes
 pub pushes_by_cancel : (old rest : List ℤ) (x y : ℤ) → old ≡ rest ++ y ∷ [] → y ≡ neg_ℤ x → PushesReduced old x rest
 pushes_by_cancel old rest x y e k = record {
   cancels = λ r f. (same_from_push rest r y (neg_ℤ x) (sym e ∙ f)).0;
-  appends = λ n. absurd (n rest (e ∙ ap (λ z. rest ++ z ∷ []) k))
+  appends = λ n. absurd (n rest (e ∙ ap (λ z. rest ++ z ∷ []) k));
 }
 
 pub pushes_by_append : (old : List ℤ) (x : ℤ) → ((rest : List ℤ) → old ≢ rest ++ neg_ℤ x ∷ []) → PushesReduced old x (old ++ x ∷ [])
@@ -319,16 +318,16 @@ pushes_by_append old x n = record { cancels = λ r f. absurd (n r f); appends = 
 pub IsReduced-pushed : (old : List ℤ) (x : ℤ) (new : List ℤ) → IsReduced old → PushesReduced old x new → IsReduced new
 IsReduced-pushed old x new h p =
     elim (ends_or_not (neg_ℤ x) old) as (λ _. IsReduced new) [
-      inl s ↦ subst (λ (t : List ℤ). IsReduced t) (sym (p.cancels s.0 s.1)) (IsReduced-left s.0 (neg_ℤ x ∷ []) (subst (λ (t : List ℤ). IsReduced t) s.1 h))
-    | inr n ↦ subst (λ (t : List ℤ). IsReduced t) (sym (p.appends n)) (IsReduced-push old x h n)
+      | inl s ↦ subst (λ (t : List ℤ). IsReduced t) (sym (p.cancels s.0 s.1)) (IsReduced-left s.0 (neg_ℤ x ∷ []) (subst (λ (t : List ℤ). IsReduced t) s.1 h))
+      | inr n ↦ subst (λ (t : List ℤ). IsReduced t) (sym (p.appends n)) (IsReduced-push old x h n)
     ]
 
 pub pushed_form : (old : List ℤ) (x : ℤ) (new rest : List ℤ) → PushesReduced old x new → free_form (new ++ rest) ≡ free_form (old ++ x ∷ rest)
 pushed_form old x new rest p =
     elim (ends_or_not (neg_ℤ x) old) as (λ _. free_form (new ++ rest) ≡ free_form (old ++ x ∷ rest)) [
-      inl s ↦ ap (λ t. free_form (t ++ rest)) (p.cancels s.0 s.1) ∙ (sym (free_form-pair_back s.0 x rest)
-        ∙ (ap free_form (sym (append_assoc s.0 (neg_ℤ x ∷ []) (x ∷ rest))) ∙ ap (λ t. free_form (t ++ x ∷ rest)) (sym s.1)))
-    | inr n ↦ ap (λ t. free_form (t ++ rest)) (p.appends n) ∙ ap free_form (append_assoc old (x ∷ []) rest)
+      | inl s ↦ ap (λ t. free_form (t ++ rest)) (p.cancels s.0 s.1) ∙ (sym (free_form-pair_back s.0 x rest)
+          ∙ (ap free_form (sym (append_assoc s.0 (neg_ℤ x ∷ []) (x ∷ rest))) ∙ ap (λ t. free_form (t ++ x ∷ rest)) (sym s.1)))
+      | inr n ↦ ap (λ t. free_form (t ++ rest)) (p.appends n) ∙ ap free_form (append_assoc old (x ∷ []) rest)
     ]
 
 pub pushed_is : (old : List ℤ) (x : ℤ) (new : List ℤ) → IsReduced old → PushesReduced old x new → new ≡ free_form (old ++ x ∷ [])
@@ -342,14 +341,63 @@ pushed_onto w x new p = pushed_is (free_form w) x new (IsReduced-free_form w) p 
 pub pushed-length : (old : List ℤ) (x : ℤ) (new : List ℤ) → PushesReduced old x new → length new ≤ length old + 1
 pushed-length old x new p =
     elim (ends_or_not (neg_ℤ x) old) as (λ _. length new ≤ length old + 1) [
-      inl s ↦ omega (arith, ap length (p.cancels s.0 s.1), simp length-append at (ap length s.1))
-    | inr n ↦ omega (arith, simp length-append at (ap length (p.appends n)))
+      | inl s ↦ omega (arith, ap length (p.cancels s.0 s.1), simp length-append at (ap length s.1))
+      | inr n ↦ omega (arith, simp length-append at (ap length (p.appends n)))
     ]
 
 -- a word times letters, each of which is pushed with reduction
 pub pushed_over : (m : ℕ) (old : List ℤ) (x : ℤ) (new : List ℤ) → IsOver m old → IsLetterOf m x → PushesReduced old x new → IsOver m new
 pushed_over m old x new h l p =
     elim (ends_or_not (neg_ℤ x) old) as (λ _. IsOver m new) [
-      inl s ↦ subst (λ (t : List ℤ). IsOver m t) (sym (p.cancels s.0 s.1)) (IsOver-left m s.0 (neg_ℤ x ∷ []) (subst (λ (t : List ℤ). IsOver m t) s.1 h))
-    | inr n ↦ subst (λ (t : List ℤ). IsOver m t) (sym (p.appends n)) (IsOver-append m old (x ∷ []) h (l, tt))
+      | inl s ↦ subst (λ (t : List ℤ). IsOver m t) (sym (p.cancels s.0 s.1)) (IsOver-left m s.0 (neg_ℤ x ∷ []) (subst (λ (t : List ℤ). IsOver m t) s.1 h))
+      | inr n ↦ subst (λ (t : List ℤ). IsOver m t) (sym (p.appends n)) (IsOver-append m old (x ∷ []) h (l, tt))
     ]
+
+-- reduced words by their places
+pub undone_at : (w : List ℤ) (k : ℕ) (d : ℤ) → k + 1 < length w → get_or w (k + 1) d ≡ neg_ℤ (get_or w k d) → IsReduced w → ⊥
+undone_at w k d l e h =
+    h (take k w) (drop (k + 1 + 1) w) (get_or w k d)
+    (sym (take-append-drop k w) ∙ ap (λ t. take k w ++ t) (drop_more w k d (omega arith) ∙ ap (λ t. get_or w k d ∷ t) (drop_more w (k + 1) d l ∙ ap (λ z. z ∷ drop (k + 1 + 1) w) e)))
+
+pub reduced_by_places : (w : List ℤ) (d : ℤ) → ((k : ℕ) → k + 1 < length w → get_or w (k + 1) d ≢ neg_ℤ (get_or w k d)) → IsReduced w
+reduced_by_places w d h before after x e =
+    h (length before)
+    (let m = simp length-append at (ap length e) in omega arith)
+    (ap (λ t. get_or t (length before + 1) d) (e ∙ sym (append_assoc before (x ∷ []) (neg_ℤ x ∷ after)))
+    ∙ (get_or_at (before ++ x ∷ []) (neg_ℤ x) after d (length before + 1) (length_push before x)
+    ∙ ap neg_ℤ (sym (ap (λ t. get_or t (length before) d) e ∙ get_or_at before x (neg_ℤ x ∷ after) d (length before) refl))))
+
+-- the steps of loops that push letters with reduction
+pub reduced_as_form : (w v : List ℤ) → v ≡ free_form w → IsReduced v
+reduced_as_form w v e = subst (λ (t : List ℤ). IsReduced t) (sym e) (IsReduced-free_form w)
+
+pub pushed_next : (w old new : List ℤ) (i : ℕ) (x : ℤ) → i < length w → x ≡ get_or w i x → old ≡ free_form (take i w) → PushesReduced old x new → new ≡ free_form (take (i + 1) w)
+pushed_next w old new i x l r e p =
+    pushed_onto (take i w) x new (subst (λ (t : List ℤ). PushesReduced t x new) e p) ∙ ap free_form (ap (λ z. take i w ++ z ∷ []) r ∙ sym (take_more w i x l))
+
+pub pushed_room : (w v : List ℤ) (i : ℕ) → i < length w → v ≡ free_form (take i w) → length v + 1 ≤ length w
+pushed_room w v i l e = omega (arith, ap length e, free_form-length (take i w), length-take i w)
+
+pub pushed_all : (w v : List ℤ) (i : ℕ) → length w ≤ i → v ≡ free_form (take i w) → v ≡ free_form w
+pushed_all w v i l e = e ∙ ap free_form (take_all i w l)
+
+pub undone_read : (w : List ℤ) (i : ℕ) (x y : ℤ) → 1 ≤ i → i < length w → x ≡ get_or w i x → y ≡ get_or w (i - 1) y → x ≡ neg_ℤ y → IsReduced w → ⊥
+undone_read w i x y a l e f k =
+    let p : i - 1 + 1 ≡ i = omega arith in
+    undone_at w (i - 1) (pos 0) (omega arith)
+    (ap (λ j. get_or w j (pos 0)) p ∙ (sym (get_or_read w i x l e (pos 0)) ∙ (k ∙ ap neg_ℤ (get_or_read w (i - 1) y (omega arith) f (pos 0)))))
+
+pub pushed_back : (u ys old new : List ℤ) (y x : ℤ) → x ≡ neg_ℤ y → old ≡ free_form (u ++ map neg_ℤ ys) → PushesReduced old x new → new ≡ free_form (u ++ map neg_ℤ (ys ++ y ∷ []))
+pushed_back u ys old new y x k e p =
+    pushed_onto (u ++ map neg_ℤ ys) x new (subst (λ (t : List ℤ). PushesReduced t x new) e p)
+    ∙ ap free_form (ap (λ z. (u ++ map neg_ℤ ys) ++ z ∷ []) k ∙ (append_assoc u (map neg_ℤ ys) (neg_ℤ y ∷ []) ∙ ap (λ t. u ++ t) (sym (map-append neg_ℤ ys (y ∷ [])))))
+
+pub back_room : (u ys w : List ℤ) → w ≡ free_form (u ++ map neg_ℤ ys) → length w ≤ length u + length ys
+back_room u ys w e = omega (arith, ap length e, free_form-length (u ++ map neg_ℤ ys), length-append u (map neg_ℤ ys), length-map ys neg_ℤ)
+
+-- the quotient is empty exactly where the two words are freely equal
+pub quotient_decides : (m : ℕ) (u v w : List ℤ) (r : Bool) → r ≡ (length w == 0) → w ≡ free_form (u ++ inv v) → IsOver m u → IsOver m v → (r ≡ true → FreelyEqual m u v) × (FreelyEqual m u v → r ≡ true)
+quotient_decides m u v w r k e h j = (
+  λ t. freely_from_form m u v h j (same_from_quotient u v (sym e ∙ nil_from_length w ((Decides-eqb (length w) 0).0 (sym k ∙ t)))),
+  λ s. k ∙ (Decides-eqb (length w) 0).1 (ap length (e ∙ free_form-quotient u v (same_form m u v s))),
+)

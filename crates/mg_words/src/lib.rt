@@ -2,6 +2,7 @@
 #![tactic(auto)]
 
 mod letter;
+mod operations;
 mod procedure;
 mod reduction;
 mod word;
@@ -9,9 +10,13 @@ mod words;
 
 pub use letter::Letter;
 pub use mg_lists::NoMemory;
+pub use operations::{MOST_POWER_LETTERS, WordFault, commutator, concat, inverse, power};
 pub use procedure::Procedure;
 pub use reduction::{
     freely_equal, is_over, is_reduced, push_reduced, reduce, reduced_forms_are_unique,
 };
 pub use word::Word;
-pub use words::Words;
+pub use words::{Words, equal_lists_are_one};
+
+#[cfg(test)]
+mod tests;

@@ -52,8 +52,8 @@ pub fn freely_equal(u: &Word, v: &Word, scratch: &mut Word) -> bool
     for x in u.letters() {
         push_reduced(scratch, *x);
     }
-    for x in v.letters().iter().rev() {
-        push_reduced(scratch, x.inverted());
+    for y in v.letters().iter().rev() {
+        push_reduced(scratch, y.inverted());
     }
     let equal = scratch.letters().is_empty();
     scratch.clear();
@@ -83,5 +83,4 @@ pub fn is_over(generators: u32, w: &Word) -> bool
 /// Two reduced words that are freely equal are the same word, so each word has one reduced form.
 pub fn reduced_forms_are_unique()
     ensures { (m : ℕ) (u v : List ℤ) → IsReduced u → IsReduced v → FreelyEqual m u v → u ≡ v }
-{
-}
+{}

@@ -78,6 +78,21 @@ impl Word {
         self.letters.clear();
     }
 
+    // The word of these letters.
+    pub(crate) fn from_vec(letters: Vec<Letter>) -> Word
+        ensures { result.letters ≡ letters.items }
+    {
+        Word { letters }
+    }
+
+    // Appends letters.
+    pub(crate) fn push_all(&mut self, letters: &[Letter]) -> Result<(), NoMemory>
+        ensures { OnOk result (self.new.letters ≡ self.old.letters ++ letters.now) }
+    {
+        self.letters.extend_from_slice(letters)?;
+        Ok(())
+    }
+
     // Whether the last letter is the inverse of `x`.
     pub(crate) fn ends_with_inverse_of(&self, x: Letter) -> bool
         ensures { IsTrue result ↔ ((rest : List ℤ) × (self.now.letters ≡ rest ++ neg_ℤ x ∷ [])) }

@@ -1,7 +1,8 @@
 //! Lists of words.
-ghost use Rattle.std.specs.Prelude.{◌≡◌, ◌<◌, [], ◌∷◌, ◌++◌, IfOk, OnOk, OnErr, IfSome, IfNone, length, slice_index_or, slice_get, Some};
+ghost use Rattle.std.specs.Prelude.{◌≡◌, ◌↔◌, ℤ, List as ListOf, ◌<◌, [], ◌∷◌, ◌++◌, IfOk, OnOk, OnErr, IfSome, IfNone, length, slice_index_or, slice_get, Some};
 ghost use Rattle.std.proofs.Common.{rules};
 ghost use Rattle.std.specs.Ordering.{as_partial_cmp, eq_by_cmp};
+ghost use Rattle.std.specs.declared.cmp.Ordering.TheVariants.{Equal};
 ghost use Rattle.std.specs.Cmp.{partial_order_from_own_ties};
 ghost use Rattle.std.specs.Cmp.Rules.{comparing};
 ghost use Rattle.mg_words.specs.Orders.{words_cmp, words_total};
@@ -127,3 +128,8 @@ impl Ord for Words {
         self.members.cmp(&other.members)
     }
 }
+
+/// Two lists of words compare equal exactly where they are the same value.
+pub fn equal_lists_are_one()
+    ensures { (a b : ListOf (ListOf ℤ)) → (words_cmp a b ≡ Equal) ↔ (a ≡ b) }
+{}
