@@ -1,0 +1,4 @@
+pub mod TextsPlain
+pub mod TextsSkip
+pub mod TextsSteps
+pub mod TextsValues
