@@ -10,5 +10,5 @@ use Rattle.mg_derive.specs.Acceptance.{AcceptedAt}
 pub record Searched : Type 0 where
   pub ask : Inquiry
   pub cursor : ℕ
-  pub open : Bool
+  pub is_open : Bool
   pub text : List Symbol
