@@ -2,9 +2,13 @@
 //! subgroup, the checker of them, and the search through them in the order of their numbers.
 #![tactic(auto)]
 
+mod buffers;
+mod checker;
 mod derivation;
 mod symbol;
 
+pub use buffers::Buffers;
+pub use checker::accepts;
 pub use derivation::Derivation;
 pub use mg_words::NoMemory;
 pub use symbol::Symbol;
