@@ -1,5 +1,5 @@
 //! The room that checking a derivation takes, made before.
-ghost use Rattle.std.specs.Prelude.{◌≡◌, ◌≤◌, ◌-◌, List, length, slice_index_or, IfOk, []};
+ghost use Rattle.std.specs.Prelude.{◌≡◌, ◌≤◌, ◌-◌, List, length, slice_index_or, IfOk, EachIndex, []};
 ghost use Rattle.std.specs.List.{AllByRecursion};
 ghost use Rattle.mg_derive.specs.Room.{HasRoom};
 ghost use Rattle.mg_derive.specs.Symbols.{IsSymbolOf, letters_alone, written_out, word_of};
@@ -121,11 +121,11 @@ fn length_at(words: &Words, place: u32) -> usize
 
 // The length of the longest word, or 0.
 fn longest(words: &Words) -> usize
-    ensures { AllByRecursion (λ word. length word ≤ result) words.now }
+    ensures { EachIndex words.now (λ k. length (slice_index_or words.now k []) ≤ result) }
 {
     let mut most = 0;
-    for word in words.as_slice() {
-        most = word.letters().len().max(most);
+    for place in 0..words.len() {
+        most = words.at(place).letters().len().max(most);
     }
     most
 }

@@ -133,6 +133,8 @@ fn write_sign(words: &Words, place: u32, inverse: bool, written: &mut Word) -> b
     ensures place { IsTrue result ↔ IsPlaceIn words.now place }
     ensures written { IsTrue result → written.new.letters ≡ free_form (written.old.letters ++ signed inverse (slice_index_or words.now (place - 1) [])) }
     ensures same { result ≡ false → written.new.letters ≡ written.old.letters }
+    ensures reduced { IsReduced written.new.letters }
+    ensures length { length written.new.letters ≤ length written.old.letters + length (signed inverse (slice_index_or words.now (place - 1) [])) }
     ensures capacity { written.old.capacity ≤ written.new.capacity }
 {
     if place == 0 || place as usize > words.len() {
@@ -152,6 +154,8 @@ fn write_word(word: &[Letter], written: &mut Word)
     requires reduced { IsReduced written.old.letters }
     requires room { length written.old.letters + length word.now ≤ written.old.capacity }
     ensures product { written.new.letters ≡ free_form (written.old.letters ++ word.now) }
+    ensures reduced { IsReduced written.new.letters }
+    ensures length { length written.new.letters ≤ length written.old.letters + length word.now }
     ensures capacity { written.old.capacity ≤ written.new.capacity }
 {
     for &letter in word {
@@ -164,6 +168,8 @@ fn write_inverse(word: &[Letter], written: &mut Word)
     requires reduced { IsReduced written.old.letters }
     requires room { length written.old.letters + length word.now ≤ written.old.capacity }
     ensures product { written.new.letters ≡ free_form (written.old.letters ++ inv word.now) }
+    ensures reduced { IsReduced written.new.letters }
+    ensures length { length written.new.letters ≤ length written.old.letters + length (inv word.now) }
     ensures capacity { written.old.capacity ≤ written.new.capacity }
 {
     for letter in word.iter().rev() {
