@@ -45,6 +45,7 @@ fn read(ask: &Ask, text: &[Symbol], letters: &mut Word, written: &mut Word) -> b
     ensures letters { letters.old.capacity ≤ letters.new.capacity }
     ensures written { written.old.capacity ≤ written.new.capacity }
 {
+    let goals = ask.goals().len();
     let mut stand = Stand {
         goal: 0,
         members: false,
@@ -55,7 +56,7 @@ fn read(ask: &Ask, text: &[Symbol], letters: &mut Word, written: &mut Word) -> b
             None => return false,
         }
     }
-    stand.goal == ask.goals().len()
+    stand.goal == goals
 }
 
 // Takes one more symbol; None exactly where the text can't be accepted whatever follows.
@@ -122,7 +123,7 @@ fn take(ask: &Ask, symbol: Symbol, stand: Stand, letters: &mut Word, written: &m
 fn is_word(written: &Word, goal: &Word) -> bool
     ensures { IsTrue result ↔ (written.now.letters ≡ goal.now.letters) }
 {
-    written.letters() == goal.letters()
+    written == goal
 }
 
 // Multiplies the reduced word by the word that a sign stands for; false exactly where there is no such
