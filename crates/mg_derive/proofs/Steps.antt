@@ -1,6 +1,6 @@
 -- The steps of the checker's loops.
-use Rattle.std.proofs.Common.{◌≡◌, ◌≢◌, ℕ, ◌+◌, ◌-◌, ◌*◌, ◌<◌, ◌≤◌, Bool, true, false, ℤ, pos, negsuc, List, [], ◌∷◌, ◌++◌, length, get_or, take, drop, map, neg_ℤ, Some, refl, sym, ap, subst, ◌∙◌, append_assoc, arith, eq-eqb, max, reverse}
-use Rattle.std.specs.Prelude.{◌↔◌, ◌==◌, IsTrue, slice_get, nat_abs}
+use Rattle.std.proofs.Common.{◌≡◌, ◌≢◌, ℕ, ◌+◌, ◌-◌, ◌*◌, ◌<◌, ◌≤◌, Bool, true, false, ℤ, pos, negsuc, List, [], ◌∷◌, ◌++◌, length, get_or, take, drop, map, neg_ℤ, Some, refl, sym, ap, subst, ◌∙◌, append_assoc, arith, eq-eqb, max, reverse, Result, Ok, Err}
+use Rattle.std.specs.Prelude.{◌↔◌, ◌==◌, IsTrue, IfOk, slice_get, nat_abs}
 use Rattle.std.proofs.lemmas.Bool.{false≢true}
 use Rattle.std.proofs.lemmas.Bool.Decides.{Decides-eqb}
 use Rattle.std.specs.Ordering.{is_eq}
@@ -174,3 +174,8 @@ room_for_length ask relator member symbols room h k l w text s n = record {
   letters = omega (arith, letters_within text);
   written = omega (arith, written_within ask (max (max relator member) 1) (longest_word ask relator member h k) text s, mul-le-mul_left (max (max relator member) 1) n)
 }
+
+-- two things that an answer says, joined
+pub both_ok : {A E : Type 0} (r : Result A E) (P Q R : A → Type 0) → IfOk r P → IfOk r Q → ((x : A) → P x → Q x → R x) → IfOk r R
+both_ok (Ok x) P Q R p q f = f x p q
+both_ok (Err e) P Q R p q f = p
