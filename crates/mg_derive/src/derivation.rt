@@ -1,5 +1,5 @@
 //! Derivations as values.
-ghost use Rattle.std.specs.Prelude.{◌≡◌, ◌≤◌, ◌+◌, [], ◌∷◌, ◌++◌, IfOk, OnOk, length};
+ghost use Rattle.std.specs.Prelude.{◌≡◌, ◌≤◌, ◌<◌, [], ◌∷◌, ◌++◌, IfOk, length};
 
 use crate::symbol::Symbol;
 use mg_words::NoMemory;
@@ -53,5 +53,22 @@ impl Derivation {
         ensures { IfOk result (λ text. text.symbols ≡ self.now.symbols) }
     {
         Derivation::from_symbols(alloc, self.symbols())
+    }
+
+    // Empties the text, and keeps its room.
+    pub(crate) fn clear(&mut self)
+        ensures empty { self.new.symbols ≡ [] }
+        ensures capacity { self.old.capacity ≤ self.new.capacity }
+    {
+        self.symbols.clear();
+    }
+
+    // Appends a symbol, for which there is room.
+    pub(crate) fn push(&mut self, symbol: Symbol)
+        requires { length self.old.symbols < self.old.capacity }
+        ensures symbols { self.new.symbols ≡ self.old.symbols ++ symbol ∷ [] }
+        ensures capacity { self.new.capacity ≡ self.old.capacity }
+    {
+        self.symbols.push_reserved(symbol);
     }
 }

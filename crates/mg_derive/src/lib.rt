@@ -5,10 +5,12 @@
 mod buffers;
 mod checker;
 mod derivation;
+mod numbering;
 mod symbol;
 
 pub use buffers::Buffers;
 pub use checker::accepts;
 pub use derivation::Derivation;
 pub use mg_words::NoMemory;
+pub use numbering::{symbol_count, symbol_of, symbols_at, texts_and_numbers_correspond};
 pub use symbol::Symbol;
