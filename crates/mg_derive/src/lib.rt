@@ -6,6 +6,7 @@ mod buffers;
 mod checker;
 mod derivation;
 mod numbering;
+mod search;
 mod symbol;
 
 pub use buffers::Buffers;
@@ -13,4 +14,5 @@ pub use checker::accepts;
 pub use derivation::Derivation;
 pub use mg_words::NoMemory;
 pub use numbering::{symbol_count, symbol_of, symbols_at, texts_and_numbers_correspond};
+pub use search::{Advance, Enumeration};
 pub use symbol::Symbol;
