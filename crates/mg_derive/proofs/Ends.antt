@@ -6,7 +6,7 @@ use Rattle.std.specs.Prelude.{◌↔◌, IsTrue, slice_get}
 use Rattle.std.proofs.lemmas.Bool.{cases_lt, false≢true}
 use Rattle.std.proofs.lemmas.Option.{slice_get_within, slice_get-get_or, get_or_from_slice_get}
 use Rattle.mg_numbers.specs.Texts.{IsText, value}
-use Rattle.mg_numbers.specs.Plain.{NoneAmong}
+use Rattle.mg_numbers.specs.Plain.{NoneAmong, FindsFirst}
 use Rattle.mg_numbers.proofs.TextsValues.{text_unique, value_in_base_one, length_within, room_for_a_digit}
 use Rattle.mg_words.specs.Word.{IsOver}
 use Rattle.mg_words.proofs.Chains.{Same-equal}
@@ -199,3 +199,16 @@ pub refused_text : (ask : Inquiry) (base : ℕ) (digits : List ℕ) (text : List
 refused_text ask base digits text r b s e h f a =
     let n : IsNumbered ask text (value base digits + 1) = subst (λ (m : ℕ). IsNumbered ask text (value m digits + 1)) (sym b) (numbered_by ask text digits s e) in
     false≢true (sym f ∙ h.1 (accepted_text ask text (value base digits + 1) n a))
+
+-- the first accepted text, found after some that aren't accepted
+pub finds_first : (ask new : Inquiry) (start units cursor next spent : ℕ) (text : List Symbol) → new ≡ ask → next ≡ cursor + 1 → cursor ≡ start + spent → spent < units
+    → NoneAmong (AcceptedAt ask) start cursor → IsNumbered new text next → IsAccepted new text → (s : ℕ) → spent + 1 ≡ s → FindsFirst (AcceptedAt ask) start units s
+finds_first ask new start units cursor next spent text e f c u h n a s k =
+    let found : AcceptedAt new next = record { text = text; numbered = n; accepted = a } in
+    let there : AcceptedAt ask next = subst (λ (q : Inquiry). AcceptedAt q next) e found in
+    let i : next ≡ start + s = omega arith in
+    let j : cursor ≡ start + s - 1 = omega arith in
+    record {
+      some = omega arith; within = omega arith; holds = subst (λ (m : ℕ). AcceptedAt ask m) i there;
+      none_before = subst (λ (m : ℕ). NoneAmong (AcceptedAt ask) start m) j h
+    }

@@ -143,6 +143,7 @@ impl Enumeration {
         ensures numbered { IsTrue result → IsNumbered self.new.ask self.new.text self.new.cursor }
         ensures accepted { IsTrue result → IsAccepted self.new.ask self.new.text }
         ensures refused { result ≡ false → AcceptedAt self.old.ask self.new.cursor → ⊥ }
+        ensures none { self.new.is_open ≡ true → NoneAmong (AcceptedAt self.new.ask) 0 self.new.cursor }
     {
         let found = is_accepted(&self.ask, self.base, &self.digits, &mut self.text, &mut self.buffers);
         self.cursor += 1;

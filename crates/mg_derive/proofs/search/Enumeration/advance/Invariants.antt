@@ -9,7 +9,8 @@ invariant-loop-spent l = record {
   cursor : l.self.cursor ≡ l.initial.self.cursor + l.spent;
   goes_on : l.self.is_open ≡ true;
   within : l.spent ≤ l.units;
-  none : NoneAmong (AcceptedAt l.initial.self.ask) l.initial.self.cursor l.self.cursor
+  none : NoneAmong (AcceptedAt l.initial.self.ask) l.initial.self.cursor l.self.cursor;
+  from_first : 1 ≤ l.spent → NoneAmong (AcceptedAt l.self.ask) 0 l.self.cursor
 }
 
 abbrev pub decreases-loop-spent : goal.decreases-loop-spent
