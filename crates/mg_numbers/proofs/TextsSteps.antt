@@ -1,8 +1,8 @@
 -- Steps of the loops over texts: the carry of a last digit, and digits written least significant first.
-use Rattle.std.proofs.Common.{◌≡◌, ℕ, suc, ◌+◌, ◌-◌, ◌*◌, ◌/◌, ◌%◌, ◌^◌, ◌<◌, ◌≤◌, List, [], ◌∷◌, ◌++◌, length, take, drop, set, get_or, replicate, reverse, refl, ◌∙◌, ap, arith, add-one}
+use Rattle.std.proofs.Common.{◌≡◌, ℕ, suc, ◌+◌, ◌-◌, ◌*◌, ◌/◌, ◌%◌, ◌^◌, ◌<◌, ◌≤◌, List, [], ◌∷◌, ◌++◌, length, take, drop, set, get_or, replicate, reverse, ◌∙◌, ap, arith, add-one}
 use Rattle.std.proofs.Math.Nat.{pow-suc, pow-succ', pow-zero, one-le-pow, mul-le-mul, one-mul, sub-zero}
-use Rattle.std.proofs.lemmas.Nat.{mul-lt, div-add-mod'}
-use Rattle.std.proofs.lemmas.List.{length-append, length-set, length-reverse, reverse-append, take-append-drop, take_more, drop_all, drop-set}
+use Rattle.std.proofs.lemmas.Nat.{div-add-mod'}
+use Rattle.std.proofs.lemmas.List.{length-append, length-set, length-reverse, reverse-append, take-append-drop, take_more, drop-set}
 use Rattle.mg_numbers.specs.Texts.{IsDigit, IsText, value}
 use Rattle.mg_numbers.proofs.TextsValues.{IsText-append, IsText-set, digit_at, value-append, value-push, value-set, least_of, least_of-add, value_of_ones, room_for_a_digit}
 
@@ -15,16 +15,6 @@ pub record Carrying (base : ℕ) (old now : List ℕ) (place : ℕ) : Type 0 whe
   pub is_text : IsText base now
   pub ones : drop place now ≡ replicate (length now - place) 1
   pub counts : value base now + base ^ (length now - place) ≡ value base old + 1
-
-pub carry_start : (base : ℕ) (old : List ℕ) → IsText base old → Carrying base old old (length old)
-carry_start base old a =
-    let none : length old - length old ≡ 0 = omega arith in record {
-      as_long = refl;
-      within = omega arith;
-      is_text = a;
-      ones = rw none (drop_all (length old) old (omega arith));
-      counts = rw none (omega (arith, pow-zero base));
-    }
 
 pub carry_on : (base : ℕ) (old now : List ℕ) (place : ℕ) → 1 ≤ base → 0 < place → Carrying base old now place → base ≤ get_or now (place - 1) 0
     → Carrying base old (set now (place - 1) 1) (place - 1)
@@ -78,20 +68,12 @@ value_of_front base n xs h =
 pub value-take_more : (base : ℕ) (xs : List ℕ) (i : ℕ) → i < length xs → value base (take (i + 1) xs) ≡ value base (take i xs) * base + get_or xs i 0
 value-take_more base xs i h = ap (λ t. value base t) (take_more xs i 0 h) ∙ value-push base (take i xs) (get_or xs i 0)
 
--- a value that is told, times a base and one digit more
-pub longer_fits : (v base : ℕ) → v ≤ 2 ^ 62 → base < 2 ^ 32 → v * base < 2 ^ 96
-longer_fits v base a b =
-    let e : v * base < (2 ^ 62 + 1) * 2 ^ 32 = mul-lt v base (2 ^ 62 + 1) (2 ^ 32) (omega arith) b in omega arith
-
 -- ---- the text of a value
 
 -- the last digits are written, the least significant first, and `rest` is the value of those before them
 pub record Written (base n rest : ℕ) (digits : List ℕ) : Type 0 where
   pub is_text : IsText base (reverse digits)
   pub counts : value base (reverse digits) + rest * base ^ length digits ≡ n
-
-pub written_start : (base n : ℕ) → Written base n n []
-written_start base n = record { is_text = tt; counts = omega (arith, ap (λ k. n * k) (pow-zero base)) }
 
 pub written_more : (base n rest : ℕ) (digits : List ℕ) → 1 ≤ base → 0 < rest → Written base n rest digits
     → Written base n ((rest - 1) / base) (digits ++ ((rest - 1) % base + 1) ∷ [])

@@ -1,10 +1,11 @@
 -- Chains of steps: they join, turn round, and are kept by products and by inverses.
-use Rattle.std.proofs.Common.{◌≡◌, ℕ, zero, suc, ◌+◌, ◌≤◌, ℤ, pos, negsuc, neg_ℤ, List, [], ◌∷◌, ◌++◌, map, reverse, refl, sym, ap, subst, ◌∙◌, inl, inr, append_assoc, add-one, arith}
-use Rattle.std.specs.Prelude.{Contains}
+use Rattle.std.proofs.Common.{◌≡◌, ℕ, zero, suc, ◌+◌, ◌*◌, ◌≤◌, ℤ, pos, negsuc, neg_ℤ, List, [], ◌∷◌, ◌++◌, map, reverse, length, refl, sym, ap, subst, ◌∙◌, inl, inr, append_assoc, add-one, arith}
+use Rattle.std.specs.Prelude.{Contains, nat_abs}
 use Rattle.std.proofs.Math.IntN.{neg_ℤ-neg_ℤ}
-use Rattle.std.proofs.lemmas.List.{append-nil, map-append, reverse-append}
+use Rattle.std.proofs.Math.Nat.{mul-suc}
+use Rattle.std.proofs.lemmas.List.{append-nil, map-append, reverse-append, length-append, length-map, length-reverse}
 use Rattle.mg_words.specs.Letter.{IsLetterOf}
-use Rattle.mg_words.specs.Word.{inv, times, IsOver}
+use Rattle.mg_words.specs.Word.{inv, times, power_of, commutator_of, IsOver}
 use Rattle.mg_words.specs.Chain.{IsPiece, a_pair, a_relator, an_inverse, Inserts, Step, Leads, Same, FreelyEqual}
 
 -- the inverse of a product is the product of the inverses in the other order
@@ -231,3 +232,38 @@ times-nil (suc k) = times-nil k
 -- the empty word is its own power
 pub times-empty : (k : ℕ) (w : List ℤ) → w ≡ [] → [] ≡ times k w
 times-empty k w e = sym (ap (times k) e ∙ times-nil k)
+
+-- lengths, and words over generators
+pub length-inv : (w : List ℤ) → length (inv w) ≡ length w
+length-inv w = length-map (reverse w) neg_ℤ ∙ length-reverse w
+
+pub length-times : (k : ℕ) (w : List ℤ) → length (times k w) ≡ length w * k
+length-times zero w = omega arith
+length-times (suc k) w = omega (arith, length-append w (times k w), length-times k w, mul-suc (length w) k)
+
+pub length-power_of : (k : ℤ) (w : List ℤ) → length (power_of k w) ≡ length w * nat_abs k
+length-power_of (pos k) w = length-times k w
+length-power_of (negsuc k) w = length-times (suc k) (inv w) ∙ ap (λ n. n * suc k) (length-inv w)
+
+pub IsOver-times : (m k : ℕ) (w : List ℤ) → IsOver m w → IsOver m (times k w)
+IsOver-times m zero w h = tt
+IsOver-times m (suc k) w h = IsOver-append m w (times k w) h (IsOver-times m k w h)
+
+pub IsOver-power_of : (m : ℕ) (k : ℤ) (w : List ℤ) → IsOver m w → IsOver m (power_of k w)
+IsOver-power_of m (pos k) w h = IsOver-times m k w h
+IsOver-power_of m (negsuc k) w h = IsOver-times m (suc k) (inv w) (IsOver-inv m w h)
+
+pub IsOver-commutator_of : (m : ℕ) (u v : List ℤ) → IsOver m u → IsOver m v → IsOver m (commutator_of u v)
+IsOver-commutator_of m u v h k =
+    IsOver-append m (inv u ++ inv v ++ u) v (IsOver-append m (inv u ++ inv v) u (IsOver-append m (inv u) (inv v) (IsOver-inv m u h) (IsOver-inv m v k)) h) k
+
+-- a map of letters that keeps inverses keeps the inverses of words
+pub inv-map : (f : ℤ → ℤ) → ((x : ℤ) → f (neg_ℤ x) ≡ neg_ℤ (f x)) → (w : List ℤ) → map f (inv w) ≡ inv (map f w)
+inv-map f each [] = refl
+inv-map f each (x ∷ w) =
+    ap (map f) (inv-cons x w) ∙ (map-append f (inv w) (neg_ℤ x ∷ []) ∙ (ap (λ t. t ++ f (neg_ℤ x) ∷ []) (inv-map f each w)
+    ∙ (ap (λ z. inv (map f w) ++ z ∷ []) (each x) ∙ sym (inv-cons (f x) (map f w)))))
+
+pub IsOver-map : (m n : ℕ) (f : ℤ → ℤ) → ((x : ℤ) → IsLetterOf m x → IsLetterOf n (f x)) → (w : List ℤ) → IsOver m w → IsOver n (map f w)
+IsOver-map m n f each [] h = tt
+IsOver-map m n f each (x ∷ w) h = (each x h.0, IsOver-map m n f each w h.1)

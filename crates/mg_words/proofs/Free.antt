@@ -1,6 +1,7 @@
 -- The normal form of a word in the free group: each letter in turn, from the last to the first, is put
 -- before a reduced word. Two words are freely equal exactly where their normal forms are one.
 use Rattle.std.proofs.Common.{◌≡◌, ◌≢◌, ℕ, suc, ◌+◌, ◌-◌, ◌<◌, ◌≤◌, Bool, true, false, cond, ℤ, pos, neg_ℤ, List, [], ◌∷◌, ◌++◌, map, length, get_or, take, drop, refl, sym, ap, subst, ◌∙◌, ◌⊎◌, inl, inr, append_assoc, arith}
+use Rattle.std.specs.Prelude.{◌↔◌}
 use Rattle.std.specs.Bool.{Decides, ◌==◌}
 use Rattle.std.specs.Ordering.{int_eq}
 use Rattle.std.proofs.Math.IntN.{neg_ℤ-neg_ℤ}
@@ -401,3 +402,7 @@ quotient_decides m u v w r k e h j = (
   λ t. freely_from_form m u v h j (same_from_quotient u v (sym e ∙ nil_from_length w ((Decides-eqb (length w) 0).0 (sym k ∙ t)))),
   λ s. k ∙ (Decides-eqb (length w) 0).1 (ap length (e ∙ free_form-quotient u v (same_form m u v s))),
 )
+
+-- over any generators that two words are over, they are freely equal exactly where their normal forms are one
+pub form_decides : (m : ℕ) (u v : List ℤ) → IsOver m u → IsOver m v → (free_form u ≡ free_form v) ↔ FreelyEqual m u v
+form_decides m u v h k = (freely_from_form m u v h k, same_form m u v)
