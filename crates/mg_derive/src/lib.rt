@@ -16,3 +16,6 @@ pub use mg_words::NoMemory;
 pub use numbering::{symbol_count, symbol_of, symbols_at, texts_and_numbers_correspond};
 pub use search::{Advance, Enumeration};
 pub use symbol::Symbol;
+
+#[cfg(test)]
+mod tests;
