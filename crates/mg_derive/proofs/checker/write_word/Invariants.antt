@@ -1,0 +1,9 @@
+use Rattle.std.proofs.Common.{◌≡◌, ◌+◌, ◌≤◌, ◌++◌, length, take}
+use Rattle.mg_words.proofs.Free.{free_form}
+use Rattle.mg_derive.proofs.checker.write_word.Given as goal
+
+abbrev pub invariant-loop-letter : goal.invariant-loop-letter
+invariant-loop-letter l = record {
+  done : l.written.letters ≡ free_form (l.initial.written.letters ++ take l.letter-index l.word);
+  room : l.initial.written.capacity ≤ l.written.capacity
+}

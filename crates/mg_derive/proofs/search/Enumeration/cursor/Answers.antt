@@ -1,0 +1,8 @@
+use Rattle.std.proofs.Common.{◌≡◌, true, subst}
+use Rattle.mg_numbers.specs.Plain.{NoneAmong}
+use Rattle.mg_derive.specs.Acceptance.{AcceptedAt}
+use Rattle.mg_derive.specs.Search.{Searched}
+use Rattle.mg_derive.proofs.search.Enumeration.cursor.Goals as goal
+
+pub returns-clause-none : goal.returns-clause-none
+returns-clause-none c = subst (λ (v : Searched). v.is_open ≡ true → NoneAmong (AcceptedAt v.ask) 0 v.cursor) c.self.view_is c.self.invariant.none

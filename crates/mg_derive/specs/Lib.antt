@@ -1,0 +1,5 @@
+pub mod Symbols
+pub mod Acceptance
+pub mod Room
+pub mod Search
+pub mod Reading

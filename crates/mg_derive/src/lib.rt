@@ -1,0 +1,21 @@
+//! Derivations: texts of letters, relator signs and subgroup signs that show that goals lie in a
+//! subgroup, the checker of them, and the search through them in the order of their numbers.
+#![tactic(auto)]
+
+mod buffers;
+mod checker;
+mod derivation;
+mod numbering;
+mod search;
+mod symbol;
+
+pub use buffers::Buffers;
+pub use checker::accepts;
+pub use derivation::Derivation;
+pub use mg_words::NoMemory;
+pub use numbering::{symbol_count, symbol_of, symbols_at, texts_and_numbers_correspond};
+pub use search::{Advance, Enumeration};
+pub use symbol::Symbol;
+
+#[cfg(test)]
+mod tests;

@@ -1,0 +1,99 @@
+//! Symbols by their digits, and texts by their numbers.
+ghost use Rattle.std.specs.Prelude.{◌≡◌, ℕ, ◌+◌, ◌*◌, ◌^◌, ◌≤◌, List, length, map};
+ghost use Rattle.std.specs.List.{AllByRecursion};
+ghost use Rattle.mg_numbers.specs.Texts.{IsText};
+ghost use Rattle.mg_present.specs.Ask.{Inquiry};
+ghost use Rattle.mg_derive.specs.Symbols.{IsSymbolOf, digit_of, pair_digit, symbol_count as count_of};
+ghost use Rattle.mg_derive.specs.Acceptance.{IsNumbered};
+ghost use Rattle.mg_derive.specs.declared.symbol.Symbol.{Symbol as SymbolOf};
+
+use crate::derivation::Derivation;
+use crate::symbol::Symbol;
+use mg_numbers::{Digits, text_of};
+use mg_present::Ask;
+use mg_words::Letter;
+
+/// How many symbols the Ask has.
+pub fn symbol_count(ask: &Ask) -> u32
+    ensures count { result ≡ count_of ask.now }
+    ensures most { result ≤ 769 }
+{
+    let group = ask.group();
+    2 * group.generators() + 2 * group.relators().len() as u32 + 2 * ask.subgroup().len() as u32 + 1
+}
+
+/// The symbol of the Ask with this digit.
+pub fn symbol_of(ask: &Ask, digit: u32) -> Symbol
+    requires least { 1 ≤ digit }
+    requires most { digit ≤ count_of ask.now }
+    ensures symbol { IsSymbolOf ask.now result }
+    ensures digit { digit_of ask.now result ≡ digit }
+{
+    let group = ask.group();
+    let letters = 2 * group.generators();
+    if digit <= letters {
+        let (place, inverse) = sign_at(digit);
+        return Symbol::Letter(Letter {
+            generator: place as u8,
+            inverse,
+        });
+    }
+    let rest = digit - letters;
+    let relators = 2 * group.relators().len() as u32;
+    if rest <= relators {
+        let (place, inverse) = sign_at(rest);
+        return Symbol::Relator { place, inverse };
+    }
+    let rest = rest - relators;
+    if rest <= 2 * ask.subgroup().len() as u32 {
+        let (place, inverse) = sign_at(rest);
+        return Symbol::Member { place, inverse };
+    }
+    Symbol::Cut
+}
+
+// The place and the sign with this digit among signs that have two digits each.
+fn sign_at(digit: u32) -> (u32, bool)
+    requires { 1 ≤ digit }
+    ensures digit { pair_digit 0 result.0 result.1 ≡ digit }
+    ensures least { 1 ≤ result.0 }
+    ensures most { 2 * result.0 ≤ digit + 1 }
+{
+    ((digit - 1) / 2 + 1, digit % 2 == 0)
+}
+
+/// Puts the text of the Ask that has this number. It takes no memory.
+pub fn symbols_at(ask: &Ask, number: u64, out: &mut Derivation, digits: &mut Digits)
+    requires room { 4096 ≤ out.old.capacity }
+    requires least { 1 ≤ number }
+    requires most { number ≤ 2 ^ 62 }
+    requires one_symbol { count_of ask.now ≡ 1 → number ≤ 4097 }
+    ensures numbered { IsNumbered ask.now out.new.symbols number }
+    ensures capacity { out.old.capacity ≤ out.new.capacity }
+{
+    text_of(number - 1, symbol_count(ask), digits);
+    write_symbols(ask, digits.as_slice(), out);
+}
+
+// Puts the symbols that have these digits.
+pub(crate) fn write_symbols(ask: &Ask, digits: &[u32], out: &mut Derivation)
+    requires text { IsText (count_of ask.now) digits.now }
+    requires room { length digits.now ≤ out.old.capacity }
+    ensures symbols { AllByRecursion (IsSymbolOf ask.now) out.new.symbols }
+    ensures digits { map (digit_of ask.now) out.new.symbols ≡ digits.now }
+    ensures capacity { out.old.capacity ≤ out.new.capacity }
+{
+    out.clear();
+    for &digit in digits {
+        out.push(symbol_of(ask, digit));
+    }
+}
+
+/// Texts of the symbols of an Ask and numbers from 1 correspond one to one: two texts with one number are
+/// one text, each text has a number, and each number from 1 is that of a text.
+pub fn texts_and_numbers_correspond()
+    ensures one_text { (ask : Inquiry) (s t : List SymbolOf) (n : ℕ) → IsNumbered ask s n → IsNumbered ask t n → s ≡ t }
+    ensures each_text { (ask : Inquiry) (t : List SymbolOf) → AllByRecursion (IsSymbolOf ask) t → (n : ℕ) × (1 ≤ n) × IsNumbered ask t n }
+    ensures each_number { (ask : Inquiry) (n : ℕ) → 1 ≤ n → (t : List SymbolOf) × IsNumbered ask t n }
+{
+}

@@ -1,0 +1,204 @@
+ghost use Rattle.std.specs.Prelude.{◌≤◌, IfOk, length};
+ghost use Rattle.std.specs.List.{AllByRecursion};
+ghost use Rattle.mg_present.specs.Ask.{IsReducedOver};
+ghost use Rattle.mg_present.specs.Presentation.{IsRelator};
+
+use super::*;
+use mg_numbers::Digits;
+use mg_present::{Ask, Presentation};
+use mg_words::{Letter, Word, Words, is_over, is_reduced};
+use std::alloc::{AllocError, Global};
+use std::test::Fail;
+
+const A: Letter = Letter {
+    generator: 1,
+    inverse: false,
+};
+const B: Letter = Letter {
+    generator: 2,
+    inverse: false,
+};
+const A_BACK: Letter = Letter {
+    generator: 1,
+    inverse: true,
+};
+const B_BACK: Letter = Letter {
+    generator: 2,
+    inverse: true,
+};
+
+const MEMBER_1: Symbol = Symbol::Member {
+    place: 1,
+    inverse: false,
+};
+const MEMBER_1_BACK: Symbol = Symbol::Member {
+    place: 1,
+    inverse: true,
+};
+const MEMBER_2_BACK: Symbol = Symbol::Member {
+    place: 2,
+    inverse: true,
+};
+const RELATOR_1: Symbol = Symbol::Relator {
+    place: 1,
+    inverse: false,
+};
+const RELATOR_3: Symbol = Symbol::Relator {
+    place: 3,
+    inverse: false,
+};
+
+// An Ask, the number of its first accepted text, and that text.
+#[derive(Clone, Copy)]
+struct Row<'a> {
+    generators: u32,
+    relators: &'a [&'a [Letter]],
+    subgroup: &'a [&'a [Letter]],
+    goals: &'a [&'a [Letter]],
+    number: u64,
+    text: &'a [Symbol],
+}
+
+// These words, where each is reduced, over the generators and short; else no memory.
+fn words(alloc: Global, generators: u32, lists: &[&[Letter]]) -> Result<Words, NoMemory>
+    ensures relators { IfOk result (λ words. AllByRecursion (IsRelator generators) words) }
+    ensures members { IfOk result (λ words. AllByRecursion (IsReducedOver generators) words) }
+    ensures count { IfOk result (λ words. length words ≤ length lists.now) }
+{
+    let mut words = Words::new(alloc);
+    for list in lists {
+        let word = Word::from_letters(alloc, list)?;
+        if !is_reduced(&word) || !is_over(generators, &word) || word.letters().len() > 10_000 {
+            return Err(AllocError);
+        }
+        words.push(word)?;
+    }
+    Ok(words)
+}
+
+fn ask_of(alloc: Global, row: &Row) -> Result<Ask, NoMemory> {
+    if row.generators > 64 || row.relators.len() > 256 || row.subgroup.len() > 64 || row.goals.len() > 4_096 {
+        return Err(AllocError);
+    }
+    let group = Presentation::new(row.generators, words(alloc, row.generators, row.relators)?);
+    let subgroup = words(alloc, row.generators, row.subgroup)?;
+    let goals = words(alloc, row.generators, row.goals)?;
+    Ok(Ask::new(group, subgroup, goals))
+}
+
+// Whether b^-1 a lies in the subgroup of the free group that a^2 and a b generate.
+fn free_ask(alloc: Global) -> Result<Ask, NoMemory> {
+    ask_of(
+        alloc,
+        &Row {
+            generators: 2,
+            relators: &[],
+            subgroup: &[&[A, A], &[A, B]],
+            goals: &[&[B_BACK, A]],
+            number: 703,
+            text: &[MEMBER_2_BACK, MEMBER_1, Symbol::Cut],
+        },
+    )
+}
+
+#[test]
+fn first_accepted_texts(rt: HostRuntime) -> Result<(), Fail> {
+    let empty = Row {
+        generators: 0,
+        relators: &[],
+        subgroup: &[],
+        goals: &[],
+        number: 1,
+        text: &[],
+    };
+    let rows = [
+        empty,
+        Row {
+            generators: 1,
+            relators: &[&[A, A]],
+            goals: &[&[]],
+            number: 6,
+            text: &[Symbol::Cut],
+            ..empty
+        },
+        Row {
+            generators: 1,
+            relators: &[&[A, A]],
+            goals: &[&[A, A]],
+            number: 21,
+            text: &[RELATOR_1, Symbol::Cut],
+            ..empty
+        },
+        Row {
+            generators: 2,
+            subgroup: &[&[A, A], &[A, B]],
+            goals: &[&[B_BACK, A]],
+            number: 703,
+            text: &[MEMBER_2_BACK, MEMBER_1, Symbol::Cut],
+            ..empty
+        },
+        Row {
+            generators: 2,
+            relators: &[&[A, A]],
+            goals: &[&[B, A, A, B_BACK]],
+            number: 1_310,
+            text: &[Symbol::Letter(B), RELATOR_1, Symbol::Letter(B_BACK), Symbol::Cut],
+            ..empty
+        },
+        Row {
+            generators: 2,
+            relators: &[&[A, A], &[B, B, B], &[A, B, A, B]],
+            subgroup: &[&[B]],
+            goals: &[&[A, B, A]],
+            number: 1_691,
+            text: &[RELATOR_3, MEMBER_1_BACK, Symbol::Cut],
+        },
+    ];
+    for row in &rows {
+        let mut search = Enumeration::start(rt.alloc(), ask_of(rt.alloc(), row)?)?;
+        assert_eq!(rt; search.advance(2_000), Advance::Found { spent: row.number });
+        assert_eq!(rt; search.cursor(), row.number);
+        assert_eq!(rt; search.text().symbols(), row.text);
+    }
+    Ok(())
+}
+
+#[test]
+fn a_letter_after_a_member_sign_is_refused(rt: HostRuntime) -> Result<(), Fail> {
+    let alloc = rt.alloc();
+    let ask = free_ask(alloc)?;
+    let text = Derivation::from_symbols(alloc, &[MEMBER_2_BACK, MEMBER_1, Symbol::Cut])?;
+    let mut buffers = Buffers::for_text(alloc, &ask, &text)?;
+    assert!(rt; accepts(&ask, &text, &mut buffers));
+    let symbols = [MEMBER_2_BACK, Symbol::Letter(A), Symbol::Letter(A_BACK), MEMBER_1, Symbol::Cut];
+    let text = Derivation::from_symbols(alloc, &symbols)?;
+    let mut buffers = Buffers::for_text(alloc, &ask, &text)?;
+    assert!(rt; !accepts(&ask, &text, &mut buffers));
+    Ok(())
+}
+
+#[test]
+fn texts_by_number(rt: HostRuntime) -> Result<(), Fail> {
+    let alloc = rt.alloc();
+    let ask = free_ask(alloc)?;
+    assert_eq!(rt; symbol_count(&ask), 9);
+    assert_eq!(rt; symbol_of(&ask, 8), MEMBER_2_BACK);
+    let mut text = Derivation::with_room(alloc, 4_096)?;
+    let mut digits = Digits::make(alloc)?;
+    symbols_at(&ask, 703, &mut text, &mut digits);
+    assert_eq!(rt; text.symbols(), [MEMBER_2_BACK, MEMBER_1, Symbol::Cut].as_slice());
+    assert_eq!(rt; text.copy(alloc)?.symbols(), text.symbols());
+    let mut buffers = Buffers::for_length(alloc, &ask, 3)?;
+    assert!(rt; accepts(&ask, &text, &mut buffers));
+    Ok(())
+}
+
+#[test]
+fn searches_go_on_where_they_stopped(rt: HostRuntime) -> Result<(), Fail> {
+    let mut search = Enumeration::start(rt.alloc(), free_ask(rt.alloc())?)?;
+    assert_eq!(rt; search.ask().goals().len(), 1);
+    assert_eq!(rt; search.advance(702), Advance::More);
+    assert_eq!(rt; search.cursor(), 702);
+    assert_eq!(rt; search.advance(1), Advance::Found { spent: 1 });
+    Ok(())
+}
