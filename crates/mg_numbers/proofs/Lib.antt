@@ -1,1 +1,9 @@
 pub mod BlocksNth
+pub mod BlocksLex
+pub mod ResiduesRank
+pub mod PermsRank
+pub mod PermsTuples
+pub mod BlocksRank
+pub mod BlocksTuples
+pub mod ResiduesLaws
+pub mod PermsLaws
