@@ -7,3 +7,4 @@ pub mod BlocksRank
 pub mod BlocksTuples
 pub mod ResiduesLaws
 pub mod PermsLaws
+pub mod BlocksSteps

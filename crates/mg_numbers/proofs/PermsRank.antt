@@ -1,7 +1,8 @@
 use Rattle.std.proofs.Common.{◌≡◌, ◌≢◌, ℕ, zero, suc, ◌+◌, ◌-◌, ◌*◌, ◌/◌, ◌%◌, ◌<◌, ◌≤◌, ◌⊎◌, List, [], ◌∷◌, length, map, get_or, All, cond, ltb, refl, sym, ◌∙◌, ap, subst, inl, inr, arith, rules}
 use Rattle.std.specs.List.{AllPairs}
 use Rattle.std.proofs.lemmas.Bool.Decides.{nat_tests}
-use Rattle.std.proofs.Math.Nat.{mul_comm, mul-pos, suc_inj, lt_trans, div-add-mod'}
+use Rattle.std.proofs.Math.Nat.{mul_comm, mul-pos, suc-mul, add-zero, add-suc, suc_inj, lt_trans, div-add-mod'}
+use Rattle.std.proofs.Math.Numerals.{add-one}
 use Rattle.std.proofs.lemmas.Nat.{mul-add-lt, div_below, mod_below, div-mul-add, mod-mul-add}
 use Rattle.std.proofs.lemmas.List.{length-map, get_or-map}
 use Rattle.std.proofs.lemmas.List.Elements.{All-nil, All-cons, All-head, All-tail, All-map, All-weaker}
@@ -174,3 +175,20 @@ perms_ranking d =
       total = λ xs ys p q. Earlier-total xs ys (p.count ∙ sym q.count);
       lower = λ i j below fits. lt_trans below fits
     }
+
+-- more points have no fewer permutations
+pub factorial-rises : (n k : ℕ) → factorial n ≤ factorial (n + k)
+factorial-rises n zero = omega (arith, ap factorial (add-zero n))
+factorial-rises n (suc k) = omega (arith, factorial-rises n k, ap factorial (add-suc n k), suc-mul (n + k) (factorial (n + k)))
+
+-- and of more points up to 21 no more than this
+pub factorial-fits : (n : ℕ) → n ≤ 21 → factorial n ≤ 51090942171709440000
+factorial-fits n h =
+    let e : n + (21 - n) ≡ 21 = omega arith in
+    omega (arith, factorial-rises n (21 - n), ap factorial e)
+
+-- one point more
+pub factorial-more : (count n next : ℕ) → count ≡ factorial n → next ≡ n + 1 → count * next ≡ factorial (n + 1)
+factorial-more count n next e f =
+    let s : next ≡ suc n = omega (arith, f) in
+    ap (λ c. c * next) e ∙ ap (λ k. factorial n * k) s ∙ mul_comm (factorial n) (suc n) ∙ ap factorial (sym (add-one n))

@@ -1,6 +1,6 @@
-//! Numbers from 1 for the small models of groups: the blocks of permutations and of residues.
+//! Numbers from 1 for texts, for tuples of permutations and for tuples of residues.
 #![tactic(auto)]
 
 mod blocks;
 
-pub use blocks::{Block};
+pub use blocks::{Block, MOST_DEGREE, MOST_NUMBER, action_block, perm_of, perm_places, permutations_are_numbered, residue_block, residues_are_numbered, residues_of};
