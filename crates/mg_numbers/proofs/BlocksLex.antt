@@ -1,6 +1,5 @@
-use Rattle.std.proofs.Common.{◌≡◌, ◌≢◌, ℕ, zero, suc, ◌+◌, ◌-◌, ◌<◌, ◌≤◌, ◌⊎◌, List, [], ◌∷◌, ◌++◌, length, refl, sym, ◌∙◌, ap, subst, inl, inr, arith, rules}
+use Rattle.std.proofs.Common.{◌≡◌, ℕ, ◌<◌, ◌⊎◌, List, [], ◌∷◌, ◌++◌, length, refl, sym, ◌∙◌, ap, inl, inr, arith}
 use Rattle.std.proofs.lemmas.Bool.{cases_order}
-use Rattle.std.proofs.lemmas.Bool.Decides.{nat_tests}
 use Rattle.std.proofs.Math.Nat.{suc_inj}
 use Rattle.std.specs.Ordering.{nat_cmp, ordering_then, MatchOrdering}
 use Rattle.std.specs.declared.cmp.Ordering.{Ordering}
@@ -37,13 +36,13 @@ Earlier-total [] (y ∷ ys) e = absurd (omega arith)
 Earlier-total (x ∷ xs) [] e = absurd (omega arith)
 Earlier-total (x ∷ xs) (y ∷ ys) e =
     elim (cases_order x y) [
-      inl s ↦ elim (Earlier-total xs ys (suc_inj e)) [
-        inl h ↦ inl (Earlier-tail x y xs ys s h)
-      | inr (inl h) ↦ inr (inl cc)
-      | inr (inr h) ↦ inr (inr (Earlier-tail y x ys xs (sym s) h))
+      | inl s ↦ elim (Earlier-total xs ys (suc_inj e)) [
+        | inl h ↦ inl (Earlier-tail x y xs ys s h)
+        | inr (inl h) ↦ inr (inl cc)
+        | inr (inr h) ↦ inr (inr (Earlier-tail y x ys xs (sym s) h))
       ]
-    | inr (inl l) ↦ inl (Earlier-head x y xs ys l)
-    | inr (inr l) ↦ inr (inr (Earlier-head y x ys xs l))
+      | inr (inl l) ↦ inl (Earlier-head x y xs ys l)
+      | inr (inr l) ↦ inr (inr (Earlier-head y x ys xs l))
     ]
 
 -- pieces of one length decide first
@@ -53,10 +52,10 @@ Earlier-append_cases [] (y ∷ ys) s t e h = absurd (omega arith)
 Earlier-append_cases (x ∷ xs) [] s t e h = absurd (omega arith)
 Earlier-append_cases (x ∷ xs) (y ∷ ys) s t e h =
     elim (Earlier-cases x y (xs ++ s) (ys ++ t) h) [
-      inl l ↦ inl (Earlier-head x y xs ys l)
-    | inr (same, rest) ↦ elim (Earlier-append_cases xs ys s t (suc_inj e) rest) [
-        inl b ↦ inl (Earlier-tail x y xs ys same b)
-      | inr (q, b) ↦ inr (cc, b)
+      | inl l ↦ inl (Earlier-head x y xs ys l)
+      | inr (same, rest) ↦ elim (Earlier-append_cases xs ys s t (suc_inj e) rest) [
+        | inl b ↦ inl (Earlier-tail x y xs ys same b)
+        | inr (q, b) ↦ inr (cc, b)
       ]
     ]
 
@@ -66,8 +65,8 @@ Earlier-append_left [] (y ∷ ys) s t e h = absurd (omega arith)
 Earlier-append_left (x ∷ xs) [] s t e h = absurd (omega arith)
 Earlier-append_left (x ∷ xs) (y ∷ ys) s t e h =
     elim (Earlier-cases x y xs ys h) [
-      inl l ↦ Earlier-head x y (xs ++ s) (ys ++ t) l
-    | inr (same, rest) ↦ Earlier-tail x y (xs ++ s) (ys ++ t) same (Earlier-append_left xs ys s t (suc_inj e) rest)
+      | inl l ↦ Earlier-head x y (xs ++ s) (ys ++ t) l
+      | inr (same, rest) ↦ Earlier-tail x y (xs ++ s) (ys ++ t) same (Earlier-append_left xs ys s t (suc_inj e) rest)
     ]
 
 pub Earlier-append_right : (xs s t : List ℕ) → Earlier s t → Earlier (xs ++ s) (xs ++ t)

@@ -1,4 +1,4 @@
-use Rattle.std.proofs.Common.{◌≡◌, ◌≢◌, ◌↔◌, ℕ, zero, suc, ◌+◌, ◌-◌, ◌<◌, ◌≤◌, ◌⊎◌, List, [], ◌∷◌, length, map, get_or, refl, sym, ◌∙◌, ap, subst, inl, inr, arith, rules}
+use Rattle.std.proofs.Common.{◌≡◌, ◌≢◌, ◌↔◌, ℕ, zero, suc, ◌+◌, ◌-◌, ◌<◌, ◌≤◌, ◌⊎◌, List, [], ◌∷◌, length, map, get_or, refl, sym, ◌∙◌, ap, subst, inl, inr, arith}
 use Rattle.std.proofs.Math.Nat.{lt_irrefl}
 use Rattle.std.specs.List.{Contains, AllPairs, range_with_len}
 use Rattle.std.proofs.lemmas.List.FromFn.{length-map-range_with_len, get_or-map-range_with_len}
@@ -85,13 +85,14 @@ module _ {A : Type 0} (P : A → Type 0) (Before : A → A → Type 0) (Fits : �
         once = λ a b d below within e. omega (arith, long, sym (r.forth a (r.lower a i (omega (arith, long)) there)) ∙ ap r.rank (sym (at a d (omega (arith, long))) ∙ e ∙ at b d (omega (arith, long))) ∙ r.forth b (r.lower b i (omega (arith, long)) there));
         just = λ y. (
           λ has. let k = has.0 in
-            let small : k < i = omega (arith, long, has.1) in
-            let fits : Fits k = r.lower k i small there in
-            let same : r.nth k ≡ y = sym (at k y small) ∙ has.2 in
-            (subst P same (r.is k fits), Before-from_rank y (r.nth i) (subst P same (r.is k fits)) (r.is i there) (omega (arith, small, r.forth i there, sym (r.forth k fits) ∙ ap r.rank same))),
+              let small : k < i = omega (arith, long, has.1) in
+              let fits : Fits k = r.lower k i small there in
+              let same : r.nth k ≡ y = sym (at k y small) ∙ has.2 in
+              (subst P same (r.is k fits), Before-from_rank y (r.nth i) (subst P same (r.is k fits)) (r.is i there) (omega (arith, small, r.forth i there, sym (r.forth k fits) ∙ ap r.rank same))),
           λ h. let small : r.rank y < i = omega (arith, r.rises y (r.nth i) h.0 (r.is i there) h.1, r.forth i there) in
-            (r.rank y, omega (arith, long, small), at (r.rank y) y small ∙ r.back y h.0));
-        number = ap (λ n. n + 1) (sym long)
+              (r.rank y, omega (arith, long, small), at (r.rank y) y small ∙ r.back y h.0),
+        );
+        number = ap (λ n. n + 1) (sym long);
       }
 
   -- each number from 1 that there is belongs to something
@@ -111,3 +112,8 @@ module _ {A : Type 0} (P : A → Type 0) (Before : A → A → Type 0) (Fits : �
   one_thing n x y h k =
       let same : r.rank x ≡ r.rank y = omega (arith, number_is n x h, number_is n y k) in
       sym (r.back x h.is) ∙ ap r.nth same ∙ r.back y k.is
+
+  -- what comes before has the smaller number, and the other way round
+  pub in_order : (n k : ℕ) (x y : A) → IsNth P Before n x → IsNth P Before k y → Before x y ↔ (n < k)
+  in_order n k x y h j =
+      (λ b. omega (arith, number_is n x h, number_is k y j, r.rises x y h.is j.is b), λ l. Before-from_rank x y h.is j.is (omega (arith, number_is n x h, number_is k y j)))

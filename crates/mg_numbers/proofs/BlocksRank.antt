@@ -1,12 +1,10 @@
-use Rattle.std.proofs.Common.{◌≡◌, ◌≢◌, ℕ, zero, suc, ◌+◌, ◌-◌, ◌<◌, ◌≤◌, ◌⊎◌, List, [], ◌∷◌, ◌++◌, length, Bool, true, false, ltb, refl, sym, ◌∙◌, ap, subst, inl, inr, arith, rules, sum_by}
+use Rattle.std.proofs.Common.{◌≡◌, ℕ, zero, suc, ◌+◌, ◌-◌, ◌<◌, ◌≤◌, List, [], ◌∷◌, ◌++◌, Bool, true, false, ltb, refl, sym, ◌∙◌, ap, inl, inr, arith, sum_by}
 use Rattle.std.specs.List.{range_with_len}
-use Rattle.std.proofs.lemmas.Bool.{cases_order, cases_lt}
+use Rattle.std.proofs.lemmas.Bool.{cases_order}
 use Rattle.std.proofs.lemmas.Bool.Decides.{nat_tests}
 use Rattle.std.proofs.lemmas.List.Sums.{sum_by_push}
 use Rattle.std.proofs.Math.Nat.{add-zero}
 use Rattle.std.proofs.Math.Numerals.{add-one}
-use Rattle.mg_numbers.specs.Blocks.{IsNth}
-use Rattle.mg_numbers.proofs.BlocksNth.{Ranking, IsNth-rank}
 
 -- one number more at the end
 range_with_len-more : (a n : ℕ) → range_with_len a (suc n) ≡ range_with_len a n ++ (a + n) ∷ []
@@ -60,7 +58,7 @@ next_place-is size_of first positive k n i false yes_in no_in p =
     record {
       from_first = omega (arith, p.from_first);
       within = positive (n + 1) (omega (arith, p.from_first));
-      place = omega (arith, p.place, p.within, no_in refl, places_below-suc size_of first n p.from_first, ap (places_below size_of first) (add-one n))
+      place = omega (arith, p.place, p.within, no_in refl, places_below-suc size_of first n p.from_first, ap (places_below size_of first) (add-one n));
     }
 
 pub block_at-is : (size_of : ℕ → ℕ) (first : ℕ) (positive : (n : ℕ) → first ≤ n → 0 < size_of n) (k : ℕ) → IsPlace size_of first k (block_at size_of first k).0 (block_at size_of first k).1
@@ -79,7 +77,7 @@ later_block size_of first n m h l =
 pub one_place : (size_of : ℕ → ℕ) (first k n i m j : ℕ) → IsPlace size_of first k n i → IsPlace size_of first k m j → (n ≡ m) × (i ≡ j)
 one_place size_of first k n i m j p q =
     elim (cases_order n m) [
-      inl e ↦ (e, omega (arith, p.place, q.place, ap (places_below size_of first) e))
-    | inr (inl l) ↦ absurd (omega (arith, later_block size_of first n m p.from_first l, p.place, q.place, p.within))
-    | inr (inr l) ↦ absurd (omega (arith, later_block size_of first m n q.from_first l, p.place, q.place, q.within))
+      | inl e ↦ (e, omega (arith, p.place, q.place, ap (places_below size_of first) e))
+      | inr (inl l) ↦ absurd (omega (arith, later_block size_of first n m p.from_first l, p.place, q.place, p.within))
+      | inr (inr l) ↦ absurd (omega (arith, later_block size_of first m n q.from_first l, p.place, q.place, q.within))
     ]

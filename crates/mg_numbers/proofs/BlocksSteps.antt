@@ -1,11 +1,9 @@
-use Rattle.std.proofs.Common.{◌≡◌, ℕ, zero, suc, ◌+◌, ◌-◌, ◌*◌, ◌/◌, ◌%◌, ◌^◌, ◌<◌, ◌≤◌, List, [], ◌∷◌, length, drop, set, map, All, refl, sym, ◌∙◌, ap, subst, arith}
-use Rattle.std.proofs.Math.Nat.{pow-suc, pow-zero, mul_comm, mul_assoc, add-mul, div-one, mod-one, div-div-eq-div-mul, div-add-mod', one-le-pow, mod-eq_of_lt, mul-pos, add-zero, sub-zero}
+use Rattle.std.proofs.Common.{◌≡◌, ℕ, suc, ◌+◌, ◌-◌, ◌*◌, ◌/◌, ◌%◌, ◌^◌, ◌<◌, ◌≤◌, List, ◌∷◌, length, drop, set, All, sym, ◌∙◌, ap, subst, arith}
+use Rattle.std.proofs.Math.Nat.{pow-suc, pow-zero, mul_comm, mul_assoc, add-mul, div-one, div-div-eq-div-mul, div-add-mod', one-le-pow, mod-eq_of_lt}
 use Rattle.std.proofs.lemmas.Nat.{mul-add-lt, mod_below, div-mul-add, mod-mul-add}
 use Rattle.std.proofs.lemmas.List.{length-set, drop-set, drop_all}
 use Rattle.mg_numbers.specs.Blocks.{number_in}
-use Rattle.mg_numbers.specs.Perms.{IsPerm, factorial}
-use Rattle.mg_numbers.proofs.ResiduesRank.{AreDigits, digits_of, digits_of-are, number_in-digits_of}
-use Rattle.mg_numbers.proofs.PermsRank.{perm_at, bump, factorial-pos, IsPerm-perm_at}
+use Rattle.mg_numbers.proofs.ResiduesRank.{digits_of, digits_of-are, number_in-digits_of}
 
 -- the rest by a product is a digit above the rest by one factor
 mod-mul : (i a b : ℕ) → 0 < a → 0 < b → i % (a * b) ≡ i / a % b * a + i % a
@@ -34,7 +32,7 @@ DigitsFrom-none base index out =
     record {
       within = omega arith;
       left = sym (ap (λ w. index / w) one ∙ div-one index);
-      filled = drop_all (length out) out (omega arith) ∙ ap (λ k. digits_of base k (index % base ^ k)) (sym none)
+      filled = drop_all (length out) out (omega arith) ∙ ap (λ k. digits_of base k (index % base ^ k)) (sym none);
     }
 
 pub DigitsFrom-more : (base index : ℕ) (out : List ℕ) (place rest : ℕ) → 0 < base → 0 < place → DigitsFrom base index out place rest → DigitsFrom base index (set out (place - 1) (rest % base)) (place - 1) (rest / base)
@@ -55,7 +53,7 @@ DigitsFrom-more base index out place rest positive some d =
     record {
       within = omega (arith, length-set out p (rest % base), d.within);
       left = ap (λ n. n / base) d.left ∙ div-div-eq-div-mul index w base ∙ ap (λ v. index / v) (sym power) ∙ ap (λ n. index / base ^ n) (sym size);
-      filled = now ∙ ap (λ l. rest % base ∷ l) tail ∙ sym all ∙ ap (λ n. digits_of base n (index % base ^ n)) (sym size)
+      filled = now ∙ ap (λ l. rest % base ∷ l) tail ∙ sym all ∙ ap (λ n. digits_of base n (index % base ^ n)) (sym size);
     }
 
 -- at the first place all digits are there

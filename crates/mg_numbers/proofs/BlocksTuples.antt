@@ -1,4 +1,4 @@
-use Rattle.std.proofs.Common.{◌≡◌, ◌≢◌, ℕ, zero, suc, ◌+◌, ◌-◌, ◌<◌, ◌≤◌, ◌⊎◌, refl, sym, ◌∙◌, ap, subst, inl, inr, arith, rules}
+use Rattle.std.proofs.Common.{◌≡◌, ℕ, ◌+◌, ◌<◌, ◌≤◌, ◌⊎◌, refl, sym, ◌∙◌, ap, subst, inl, inr, arith}
 use Rattle.std.proofs.lemmas.Bool.{cases_order}
 use Rattle.mg_numbers.specs.Blocks.{IsNth}
 use Rattle.mg_numbers.proofs.BlocksNth.{Ranking, IsNth-rank}
@@ -56,13 +56,13 @@ module _ {X A : Type 0} (size : X → ℕ) (part : X → A) (make : ℕ → A �
   pub order_total : (x y : X) → P x → P y → SizeFirst x y ⊎ ((x ≡ y) ⊎ SizeFirst y x)
   order_total x y p q =
       elim (cases_order (size x) (size y)) [
-        inl e ↦ elim ((r (size x)).total (part x) (part y) (part_is x p) (subst (λ n. Q n (part y)) (sym e) (part_is y q))) [
-          inl b ↦ inl (inr (e, b))
-        | inr (inl s) ↦ inr (inl (sym (make_back x) ∙ ap (λ n. make n (part x)) e ∙ ap (make (size y)) s ∙ make_back y))
-        | inr (inr b) ↦ inr (inr (inr (sym e, b)))
+        | inl e ↦ elim ((r (size x)).total (part x) (part y) (part_is x p) (subst (λ n. Q n (part y)) (sym e) (part_is y q))) [
+          | inl b ↦ inl (inr (e, b))
+          | inr (inl s) ↦ inr (inl (sym (make_back x) ∙ ap (λ n. make n (part x)) e ∙ ap (make (size y)) s ∙ make_back y))
+          | inr (inr b) ↦ inr (inr (inr (sym e, b)))
         ]
-      | inr (inl l) ↦ inl (inl l)
-      | inr (inr l) ↦ inr (inr (inl l))
+        | inr (inl l) ↦ inl (inl l)
+        | inr (inr l) ↦ inr (inr (inl l))
       ]
 
   -- the things of all sizes are numbered
@@ -77,7 +77,7 @@ module _ {X A : Type 0} (size : X → ℕ) (part : X → A) (make : ℕ → A �
         forth = λ k h. nth_forth k;
         rises = rank_rises;
         total = order_total;
-        lower = λ i j below h. tt
+        lower = λ i j below h. tt;
       }
 
   -- the part at a place of a block has the number that follows from block and place

@@ -8,3 +8,5 @@ pub mod BlocksTuples
 pub mod ResiduesLaws
 pub mod PermsLaws
 pub mod BlocksSteps
+pub mod PermsSteps
+pub mod BlocksCounts

@@ -1,10 +1,10 @@
-use Rattle.std.proofs.Common.{◌≡◌, ℕ, zero, suc, ◌+◌, ◌-◌, ◌^◌, ◌<◌, ◌≤◌, List, [], ◌∷◌, length, map, All, refl, sym, ap, ◌∙◌, subst, arith}
+use Rattle.std.proofs.Common.{◌≡◌, ◌↔◌, ℕ, suc, ◌+◌, ◌^◌, ◌<◌, ◌≤◌, List, [], ◌∷◌, length, map, All, refl, ap, ◌∙◌, arith}
 use Rattle.std.proofs.Math.Nat.{one-le-pow}
 use Rattle.std.specs.List.{AllZip}
 use Rattle.std.proofs.lemmas.List.Elements.{All-nil, All-cons}
 use Rattle.mg_numbers.specs.Blocks.{Earlier, IsNth, number_in}
 use Rattle.mg_numbers.specs.Perms.{IsPerm, factorial, PermTuple, IsPermTuple, PermTupleBefore, IsPermTupleAt, perm_tuples_below}
-use Rattle.mg_numbers.proofs.BlocksNth.{Ranking, IsNth-one_number, IsNth-rank, number_is, each_number, one_thing}
+use Rattle.mg_numbers.proofs.BlocksNth.{Ranking, IsNth-one_number, IsNth-rank, number_is, each_number, in_order, one_thing}
 use Rattle.mg_numbers.proofs.BlocksTuples.{blocks_ranking, IsNth-block}
 use Rattle.mg_numbers.proofs.PermsRank.{perms_ranking, perm_rank, factorial-pos}
 use Rattle.mg_numbers.proofs.PermsTuples.{AreOf, JoinedEarlier, tuples_ranking}
@@ -70,6 +70,10 @@ module _ (m : ℕ) where
   -- and one alone
   pub one_perm_number : (n k : ℕ) (t : PermTuple) → IsPermTupleAt m n t → IsPermTupleAt m k t → n ≡ k
   one_perm_number n k t = IsNth-one_number (IsPermTuple m) PermTupleBefore n k t
+
+  -- the tuple that comes before has the smaller number, and the other way round
+  pub perm_tuples_in_order : (n k : ℕ) (t u : PermTuple) → IsPermTupleAt m n t → IsPermTupleAt m k u → PermTupleBefore t u ↔ (n < k)
+  perm_tuples_in_order = in_order (IsPermTuple m) PermTupleBefore (λ k. Unit {0}) ranking
 
   -- the permutations at the places that are the digits of a place in a block are the tuple of the number that follows from both
   pub perm_tuple_of_block : (number degree index : ℕ) (places : List ℕ) (images : List (List ℕ)) → 1 ≤ degree → perm_tuples_below m degree + index + 1 ≡ number → length places ≡ m → number_in (factorial degree) places ≡ index → ArePermsAt degree places images → IsPermTupleAt m number (record { degree = degree; images = images })

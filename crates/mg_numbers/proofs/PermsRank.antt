@@ -1,5 +1,4 @@
-use Rattle.std.proofs.Common.{◌≡◌, ◌≢◌, ℕ, zero, suc, ◌+◌, ◌-◌, ◌*◌, ◌/◌, ◌%◌, ◌<◌, ◌≤◌, ◌⊎◌, List, [], ◌∷◌, length, map, get_or, All, cond, ltb, refl, sym, ◌∙◌, ap, subst, inl, inr, arith, rules}
-use Rattle.std.specs.List.{AllPairs}
+use Rattle.std.proofs.Common.{◌≡◌, ◌≢◌, ℕ, zero, suc, ◌+◌, ◌-◌, ◌*◌, ◌/◌, ◌%◌, ◌<◌, ◌≤◌, List, [], ◌∷◌, length, map, get_or, All, cond, ltb, refl, sym, ◌∙◌, ap, subst, inl, inr, arith}
 use Rattle.std.proofs.lemmas.Bool.Decides.{nat_tests}
 use Rattle.std.proofs.Math.Nat.{mul_comm, mul-pos, suc-mul, add-zero, add-suc, suc_inj, lt_trans, div-add-mod'}
 use Rattle.std.proofs.Math.Numerals.{add-one}
@@ -69,8 +68,8 @@ Earlier-map P f keeps [] (y ∷ ys) p q h = refl
 Earlier-map P f keeps (x ∷ xs) [] p q h = absurd cc
 Earlier-map P f keeps (x ∷ xs) (y ∷ ys) p q h =
     elim (Earlier-cases x y xs ys h) [
-      inl l ↦ Earlier-head (f x) (f y) (map f xs) (map f ys) (keeps x y (All-head P x xs p) (All-head P y ys q) l)
-    | inr (e, r) ↦ Earlier-tail (f x) (f y) (map f xs) (map f ys) (ap f e) (Earlier-map P f keeps xs ys (All-tail P x xs p) (All-tail P y ys q) r)
+      | inl l ↦ Earlier-head (f x) (f y) (map f xs) (map f ys) (keeps x y (All-head P x xs p) (All-head P y ys q) l)
+      | inr (e, r) ↦ Earlier-tail (f x) (f y) (map f xs) (map f ys) (ap f e) (Earlier-map P f keeps xs ys (All-tail P x xs p) (All-tail P y ys q) r)
     ]
 
 -- no later image is the first one
@@ -85,10 +84,10 @@ IsPerm-tail d x xs p =
       count = length-map xs (unbump x) ∙ suc_inj p.count;
       below = All-map (λ y. y < d) (unbump x) xs (λ k e l. unbump-below x (get_or xs k e) d (p.below 0 e (omega arith)) (p.below (suc k) e (omega arith)) (others k e l));
       once = λ i j e a b same.
-        let long : length (map (unbump x) xs) ≡ length xs = length-map xs (unbump x) in
-        let k : j < length xs = omega (arith, b, long) in
-        let m : i < length xs = omega (arith, a, k) in
-        p.once (suc i) (suc j) e (omega (arith, a)) (omega (arith, k)) (sym (bump-unbump x (get_or xs i e) (others i e m)) ∙ ap (bump x) (sym (get_or-map (unbump x) xs i e e m) ∙ same ∙ get_or-map (unbump x) xs j e e k) ∙ bump-unbump x (get_or xs j e) (others j e k))
+          let long : length (map (unbump x) xs) ≡ length xs = length-map xs (unbump x) in
+          let k : j < length xs = omega (arith, b, long) in
+          let m : i < length xs = omega (arith, a, k) in
+          p.once (suc i) (suc j) e (omega (arith, a)) (omega (arith, k)) (sym (bump-unbump x (get_or xs i e) (others i e m)) ∙ ap (bump x) (sym (get_or-map (unbump x) xs i e e m) ∙ same ∙ get_or-map (unbump x) xs j e e k) ∙ bump-unbump x (get_or xs j e) (others j e k));
     }
 
 -- an image put before a permutation, whose images make room for it
@@ -98,10 +97,10 @@ IsPerm-cons d q xs l p =
       count = ap suc (length-map xs (bump q) ∙ p.count);
       below = All-cons (λ y. y < suc d) q (map (bump q) xs) l (All-map (λ y. y < suc d) (bump q) xs (λ k e h. bump-below q (get_or xs k e) d (p.below k e h)));
       once = AllPairs-cons (λ x y. x ≢ y) q (map (bump q) xs) (All-map (λ y. q ≢ y) (bump q) xs (λ k e h. bump-ne q (get_or xs k e))) (λ i j e a b same.
-        let long : length (map (bump q) xs) ≡ length xs = length-map xs (bump q) in
-        let k : j < length xs = omega (arith, b, long) in
-        let m : i < length xs = omega (arith, a, k) in
-        p.once i j e a k (sym (unbump-bump q (get_or xs i e)) ∙ ap (unbump q) (sym (get_or-map (bump q) xs i e e m) ∙ same ∙ get_or-map (bump q) xs j e e k) ∙ unbump-bump q (get_or xs j e)))
+          let long : length (map (bump q) xs) ≡ length xs = length-map xs (bump q) in
+          let k : j < length xs = omega (arith, b, long) in
+          let m : i < length xs = omega (arith, a, k) in
+          p.once i j e a k (sym (unbump-bump q (get_or xs i e)) ∙ ap (unbump q) (sym (get_or-map (bump q) xs i e e m) ∙ same ∙ get_or-map (bump q) xs j e e k) ∙ unbump-bump q (get_or xs j e)));
     }
 
 pub perm_rank-below : (d : ℕ) (xs : List ℕ) → IsPerm d xs → perm_rank d xs < factorial d
@@ -157,8 +156,8 @@ perm_rank-rises (suc d) (x ∷ xs) [] p q h = absurd (omega (arith, q.count))
 perm_rank-rises (suc d) (x ∷ xs) (y ∷ ys) p q h =
     let f = factorial d in
     elim (Earlier-cases x y xs ys h) [
-      inl l ↦ place_lt x y f (perm_rank d (map (unbump x) xs)) (perm_rank d (map (unbump y) ys)) l (perm_rank-below d (map (unbump x) xs) (IsPerm-tail d x xs p))
-    | inr (e, r) ↦ rises_in_tail d x y xs ys p q e r (perm_rank-rises d (map (unbump x) xs) (map (unbump y) ys) (IsPerm-tail d x xs p) (IsPerm-tail d y ys q))
+      | inl l ↦ place_lt x y f (perm_rank d (map (unbump x) xs)) (perm_rank d (map (unbump y) ys)) l (perm_rank-below d (map (unbump x) xs) (IsPerm-tail d x xs p))
+      | inr (e, r) ↦ rises_in_tail d x y xs ys p q e r (perm_rank-rises d (map (unbump x) xs) (map (unbump y) ys) (IsPerm-tail d x xs p) (IsPerm-tail d y ys q))
     ]
 
 -- image lists in lexicographic order are numbered by how many come before
@@ -173,7 +172,7 @@ perms_ranking d =
       forth = perm_rank-perm_at d;
       rises = perm_rank-rises d;
       total = λ xs ys p q. Earlier-total xs ys (p.count ∙ sym q.count);
-      lower = λ i j below fits. lt_trans below fits
+      lower = λ i j below fits. lt_trans below fits;
     }
 
 -- more points have no fewer permutations

@@ -1,4 +1,4 @@
-use Rattle.std.proofs.Common.{◌≡◌, ◌≢◌, ℕ, zero, suc, ◌+◌, ◌^◌, ◌<◌, ◌≤◌, ◌⊎◌, List, [], ◌∷◌, ◌++◌, length, map, All, refl, sym, ◌∙◌, ap, subst, inl, inr, arith, rules}
+use Rattle.std.proofs.Common.{◌≡◌, ℕ, ◌^◌, ◌<◌, ◌⊎◌, List, [], ◌∷◌, ◌++◌, length, map, All, sym, ◌∙◌, ap, subst, inl, inr, arith}
 use Rattle.std.specs.List.{concat}
 use Rattle.std.proofs.Math.Nat.{suc_inj, lt_trans}
 use Rattle.std.proofs.lemmas.List.{length-map}
@@ -27,8 +27,8 @@ module _ (Q : List ℕ → Type 0) (long n : ℕ) (alike : (x : List ℕ) → Q 
       let a = All-head Q t ts p in
       let b = All-head Q u us q in
       elim (Earlier-append_cases t u (concat ts) (concat us) (alike t a ∙ sym (alike u b)) h) [
-        inl l ↦ Earlier-head (r.rank t) (r.rank u) (map r.rank ts) (map r.rank us) (r.rises t u a b l)
-      | inr (same, rest) ↦ Earlier-tail (r.rank t) (r.rank u) (map r.rank ts) (map r.rank us) (ap r.rank same) (ranks_earlier ts us (suc_inj e) (All-tail Q t ts p) (All-tail Q u us q) rest)
+        | inl l ↦ Earlier-head (r.rank t) (r.rank u) (map r.rank ts) (map r.rank us) (r.rises t u a b l)
+        | inr (same, rest) ↦ Earlier-tail (r.rank t) (r.rank u) (map r.rank ts) (map r.rank us) (ap r.rank same) (ranks_earlier ts us (suc_inj e) (All-tail Q t ts p) (All-tail Q u us q) rest)
       ]
 
   joined_from_ranks : (ts us : List (List ℕ)) → length ts ≡ length us → All Q ts → All Q us → Earlier (map r.rank ts) (map r.rank us) → JoinedEarlier ts us
@@ -39,11 +39,11 @@ module _ (Q : List ℕ → Type 0) (long n : ℕ) (alike : (x : List ℕ) → Q 
       let a = All-head Q t ts p in
       let b = All-head Q u us q in
       elim (Earlier-cases (r.rank t) (r.rank u) (map r.rank ts) (map r.rank us) h) [
-        inl l ↦ Earlier-append_left t u (concat ts) (concat us) (alike t a ∙ sym (alike u b)) (Before-from_rank Q Earlier (λ i. i < n) r t u a b l)
-      | inr (same, rest) ↦
-          let equal : t ≡ u = sym (r.back t a) ∙ ap r.nth same ∙ r.back u b in
-          let below = joined_from_ranks ts us (suc_inj e) (All-tail Q t ts p) (All-tail Q u us q) rest in
-          subst (λ v. Earlier (t ++ concat ts) (v ++ concat us)) equal (Earlier-append_right t (concat ts) (concat us) below)
+        | inl l ↦ Earlier-append_left t u (concat ts) (concat us) (alike t a ∙ sym (alike u b)) (Before-from_rank Q Earlier (λ i. i < n) r t u a b l)
+        | inr (same, rest) ↦
+            let equal : t ≡ u = sym (r.back t a) ∙ ap r.nth same ∙ r.back u b in
+            let below = joined_from_ranks ts us (suc_inj e) (All-tail Q t ts p) (All-tail Q u us q) rest in
+            subst (λ v. Earlier (t ++ concat ts) (v ++ concat us)) equal (Earlier-append_right t (concat ts) (concat us) below)
       ]
 
   pub ranks_are : (m : ℕ) (ts : List (List ℕ)) → AreOf Q m ts → AreDigits n m (map r.rank ts)
@@ -62,9 +62,9 @@ module _ (Q : List ℕ → Type 0) (long n : ℕ) (alike : (x : List ℕ) → Q 
   total_of m ts us p q =
       let same : length ts ≡ length us = p.count ∙ sym q.count in
       elim (Earlier-total (map r.rank ts) (map r.rank us) (length-map ts r.rank ∙ same ∙ sym (length-map us r.rank))) [
-        inl h ↦ inl (joined_from_ranks ts us same p.each q.each h)
-      | inr (inl e) ↦ inr (inl (sym (things_back ts p.each) ∙ ap (map r.nth) e ∙ things_back us q.each))
-      | inr (inr h) ↦ inr (inr (joined_from_ranks us ts (sym same) q.each p.each h))
+        | inl h ↦ inl (joined_from_ranks ts us same p.each q.each h)
+        | inr (inl e) ↦ inr (inl (sym (things_back ts p.each) ∙ ap (map r.nth) e ∙ things_back us q.each))
+        | inr (inr h) ↦ inr (inr (joined_from_ranks us ts (sym same) q.each p.each h))
       ]
 
   -- tuples of numbered lists are numbered by their numbers as digits
@@ -80,5 +80,5 @@ module _ (Q : List ℕ → Type 0) (long n : ℕ) (alike : (x : List ℕ) → Q 
         forth = λ i h. ap (number_in n) (ranks_back (digits_of n m i) (d.is i h).below) ∙ d.forth i h;
         rises = λ ts us p q h. d.rises (map r.rank ts) (map r.rank us) (ranks_are m ts p) (ranks_are m us q) (ranks_earlier ts us (p.count ∙ sym q.count) p.each q.each h);
         total = total_of m;
-        lower = λ i j below fits. lt_trans below fits
+        lower = λ i j below fits. lt_trans below fits;
       }

@@ -1,8 +1,8 @@
-use Rattle.std.proofs.Common.{◌≡◌, ℕ, zero, suc, ◌+◌, ◌-◌, ◌^◌, ◌<◌, ◌≤◌, List, length, All, refl, arith}
+use Rattle.std.proofs.Common.{◌≡◌, ◌↔◌, ℕ, ◌+◌, ◌^◌, ◌<◌, ◌≤◌, List, length, All, refl, arith}
 use Rattle.std.proofs.Math.Nat.{one-le-pow}
-use Rattle.mg_numbers.specs.Blocks.{Earlier, IsNth, number_in}
+use Rattle.mg_numbers.specs.Blocks.{Earlier, number_in}
 use Rattle.mg_numbers.specs.Residues.{ResidueTuple, IsResidueTuple, ResidueTupleBefore, IsResidueTupleAt, residue_tuples_below}
-use Rattle.mg_numbers.proofs.BlocksNth.{Ranking, IsNth-one_number, IsNth-rank, each_number, one_thing}
+use Rattle.mg_numbers.proofs.BlocksNth.{Ranking, IsNth-one_number, IsNth-rank, each_number, in_order, one_thing}
 use Rattle.mg_numbers.proofs.BlocksTuples.{blocks_ranking, IsNth-block}
 use Rattle.mg_numbers.proofs.ResiduesRank.{AreDigits, digits_ranking}
 
@@ -39,6 +39,10 @@ module _ (m : ℕ) where
   -- and one alone
   pub one_residue_number : (n k : ℕ) (t : ResidueTuple) → IsResidueTupleAt m n t → IsResidueTupleAt m k t → n ≡ k
   one_residue_number n k t = IsNth-one_number (IsResidueTuple m) ResidueTupleBefore n k t
+
+  -- the tuple that comes before has the smaller number, and the other way round
+  pub residue_tuples_in_order : (n k : ℕ) (t u : ResidueTuple) → IsResidueTupleAt m n t → IsResidueTupleAt m k u → ResidueTupleBefore t u ↔ (n < k)
+  residue_tuples_in_order = in_order (IsResidueTuple m) ResidueTupleBefore (λ k. Unit {0}) ranking
 
   -- the digits of a place in a block are the tuple of the number that follows from both
   pub residue_tuple_of_block : (number modulus index : ℕ) (residues : List ℕ) → 2 ≤ modulus → residue_tuples_below m modulus + index + 1 ≡ number → length residues ≡ m → All (λ x. x < modulus) residues → number_in modulus residues ≡ index → IsResidueTupleAt m number (record { modulus = modulus; residues = residues })

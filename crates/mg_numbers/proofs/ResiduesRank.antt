@@ -1,4 +1,4 @@
-use Rattle.std.proofs.Common.{◌≡◌, ◌≢◌, ℕ, zero, suc, ◌+◌, ◌-◌, ◌*◌, ◌/◌, ◌%◌, ◌^◌, ◌<◌, ◌≤◌, ◌⊎◌, List, [], ◌∷◌, length, All, refl, sym, ◌∙◌, ap, subst, inl, inr, arith, rules}
+use Rattle.std.proofs.Common.{◌≡◌, ℕ, zero, suc, ◌+◌, ◌*◌, ◌/◌, ◌%◌, ◌^◌, ◌<◌, List, [], ◌∷◌, length, All, refl, sym, ◌∙◌, ap, subst, inl, inr, arith}
 use Rattle.std.proofs.Math.Nat.{pow-suc, pow-zero, pow-succ', zero-mul, suc-mul, suc_inj, mul-le-mul_right, eq-zero-or-pos, lt_trans, div-add-mod'}
 use Rattle.std.proofs.lemmas.Nat.{mul-add-lt, div_below, mod_below, div-mul-add, mod-mul-add}
 use Rattle.std.proofs.lemmas.List.Elements.{All-nil, All-cons, All-head, All-tail}
@@ -35,7 +35,7 @@ digits_of-are base (suc m) i h =
     let rest = digits_of-are base m (i % w) (mod_below i w p) in
     record {
       count = ap suc rest.count;
-      below = All-cons (λ x. x < base) (i / w) (digits_of base m (i % w)) (div_below i w base p (subst (λ p. i < p) (pow-succ' base m) h)) rest.below
+      below = All-cons (λ x. x < base) (i / w) (digits_of base m (i % w)) (div_below i w base p (subst (λ p. i < p) (pow-succ' base m) h)) rest.below;
     }
 
 pub number_in-digits_of : (base m i : ℕ) → i < base ^ m → number_in base (digits_of base m i) ≡ i
@@ -70,8 +70,8 @@ number_in-rises base (x ∷ xs) (y ∷ ys) e h b =
     let few = All-tail (λ x. x < base) x xs h in
     let same : base ^ length ys ≡ w = ap (λ n. base ^ n) (sym (suc_inj e)) in
     let goal : x * w + number_in base xs < y * w + number_in base ys = elim (Earlier-cases x y xs ys b) [
-      inl l ↦ place_lt x y w (number_in base xs) (number_in base ys) l (number_in-below base xs few)
-    | inr (q, r) ↦ let k = number_in-rises base xs ys (suc_inj e) few r in omega (arith, k, ap (λ z. z * w) q)
+      | inl l ↦ place_lt x y w (number_in base xs) (number_in base ys) l (number_in-below base xs few)
+      | inr (q, r) ↦ let k = number_in-rises base xs ys (suc_inj e) few r in omega (arith, k, ap (λ z. z * w) q)
     ] in
     subst (λ v. x * w + number_in base xs < y * v + number_in base ys) (sym same) goal
 
@@ -87,5 +87,5 @@ digits_ranking base m =
       forth = number_in-digits_of base m;
       rises = λ xs ys p q b. number_in-rises base xs ys (p.count ∙ sym q.count) p.below b;
       total = λ xs ys p q. Earlier-total xs ys (p.count ∙ sym q.count);
-      lower = λ i j below fits. lt_trans below fits
+      lower = λ i j below fits. lt_trans below fits;
     }

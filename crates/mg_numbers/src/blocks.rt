@@ -1,8 +1,8 @@
-ghost use Rattle.std.specs.Prelude.{◌≡◌, ℕ, ◌+◌, ◌^◌, ◌≤◌, ◌<◌, List, length, All, map, nat_lt, if◌then◌else◌};
+ghost use Rattle.std.specs.Prelude.{◌≡◌, ℕ, ◌+◌, ◌^◌, ◌≤◌, ◌<◌, List, length, All, map, nat_lt, if◌then◌else◌, ◌↔◌};
 ghost use Rattle.std.specs.List.{AllZip};
 ghost use Rattle.mg_numbers.specs.Blocks.{Earlier, IsNth, number_in};
-ghost use Rattle.mg_numbers.specs.Perms.{IsPerm, PermTuple, IsPermTuple, IsPermTupleAt, factorial, perm_tuples_below};
-ghost use Rattle.mg_numbers.specs.Residues.{ResidueTuple, IsResidueTuple, IsResidueTupleAt, residue_tuples_below};
+ghost use Rattle.mg_numbers.specs.Perms.{IsPerm, PermTuple, PermTupleBefore, IsPermTuple, IsPermTupleAt, factorial, perm_tuples_below};
+ghost use Rattle.mg_numbers.specs.Residues.{ResidueTuple, ResidueTupleBefore, IsResidueTuple, IsResidueTupleAt, residue_tuples_below};
 
 /// The largest number of a tuple that is looked for: 2^62.
 pub const MOST_NUMBER: u64 = 4_611_686_018_427_387_904;
@@ -155,13 +155,14 @@ pub fn permutations_are_numbered()
         IsPermTuple m t → (n : ℕ) × (1 ≤ n) × IsPermTupleAt m n t }
     ensures one_number { (m n k : ℕ) (t : PermTuple) →
         IsPermTupleAt m n t → IsPermTupleAt m k t → n ≡ k }
+    ensures in_order { (m n k : ℕ) (t u : PermTuple) →
+        IsPermTupleAt m n t → IsPermTupleAt m k u → PermTupleBefore t u ↔ (n < k) }
     ensures by_division { (m number degree index : ℕ) (places : List ℕ) (images : List (List ℕ)) →
         1 ≤ degree → perm_tuples_below m degree + index + 1 ≡ number →
         length places ≡ m → number_in (factorial degree) places ≡ index →
         AllZip (λ place image. IsNth (IsPerm degree) Earlier (place + 1) image) places images →
         IsPermTupleAt m number (record { degree = degree; images = images }) }
-{
-}
+{}
 
 /// Each number from 1 belongs to one tuple of residues, and each tuple has one number. The block
 /// of a number and the digits of its place there give the tuple.
@@ -173,19 +174,86 @@ pub fn residues_are_numbered()
         IsResidueTuple m t → (n : ℕ) × (1 ≤ n) × IsResidueTupleAt m n t }
     ensures one_number { (m n k : ℕ) (t : ResidueTuple) →
         IsResidueTupleAt m n t → IsResidueTupleAt m k t → n ≡ k }
+    ensures in_order { (m n k : ℕ) (t u : ResidueTuple) →
+        IsResidueTupleAt m n t → IsResidueTupleAt m k u → ResidueTupleBefore t u ↔ (n < k) }
     ensures by_division { (m number modulus index : ℕ) (residues : List ℕ) →
         2 ≤ modulus → residue_tuples_below m modulus + index + 1 ≡ number →
         length residues ≡ m → All (λ x. x < modulus) residues → number_in modulus residues ≡ index →
         IsResidueTupleAt m number (record { modulus = modulus; residues = residues }) }
-{
-}
+{}
 
 #[cfg(test)]
 mod tests {
     use super::*;
 
     #[test]
-    fn blocks(rt: HostRuntime) {
+    fn numbers_of_permutations(rt: HostRuntime) {
+        // Two generators: number 5 is degree 2 with 1 0, 1 0, and number 15 degree 3 with 0 2 1, 1 2 0.
+        assert_eq!(rt; action_block(5, 2), Block { size: 2, index: 3 });
+        let mut places = [0u64; 2];
+        perm_places(3, 2, &mut places);
+        assert_eq!(rt; places, [1, 1]);
+        let mut swapped = [0u32; 2];
+        perm_of(1, 2, &mut swapped);
+        assert_eq!(rt; swapped, [1, 0]);
         assert_eq!(rt; action_block(15, 2), Block { size: 3, index: 9 });
+        perm_places(9, 3, &mut places);
+        assert_eq!(rt; places, [1, 3]);
+        let mut images = [0u32; 3];
+        perm_of(1, 3, &mut images);
+        assert_eq!(rt; images, [0, 2, 1]);
+        perm_of(3, 3, &mut images);
+        assert_eq!(rt; images, [1, 2, 0]);
+        permutations_are_numbered();
+    }
+
+    #[test]
+    fn numbers_of_residues(rt: HostRuntime) {
+        // Two generators: number 3 is modulus 2 with 1 0, and number 4 modulus 2 with 1 1.
+        let mut pair = [0u32; 2];
+        assert_eq!(rt; residue_block(3, 2), Block { size: 2, index: 2 });
+        residues_of(2, 2, &mut pair);
+        assert_eq!(rt; pair, [1, 0]);
+        assert_eq!(rt; residue_block(4, 2), Block { size: 2, index: 3 });
+        residues_of(3, 2, &mut pair);
+        assert_eq!(rt; pair, [1, 1]);
+        // One generator: number 2 is modulus 2 with 1, and number 7 modulus 4 with 1.
+        let mut one = [0u32; 1];
+        assert_eq!(rt; residue_block(2, 1), Block { size: 2, index: 1 });
+        assert_eq!(rt; residue_block(7, 1), Block { size: 4, index: 1 });
+        residues_of(1, 4, &mut one);
+        assert_eq!(rt; one, [1]);
+        residues_are_numbered();
+    }
+
+    #[test]
+    fn last_numbers_of_blocks(rt: HostRuntime) {
+        // (number, generators, size, index): the last tuple of each block up to size 4.
+        let permutations: [(u64, u32, u32, u64); 8] = [
+            (1, 1, 1, 0),
+            (3, 1, 2, 1),
+            (9, 1, 3, 5),
+            (33, 1, 4, 23),
+            (1, 2, 1, 0),
+            (5, 2, 2, 3),
+            (41, 2, 3, 35),
+            (617, 2, 4, 575),
+        ];
+        for (number, generators, size, index) in permutations {
+            prove!(1 <= number && number <= MOST_NUMBER && 1 <= generators);
+            assert_eq!(rt; action_block(number, generators), Block { size, index });
+        }
+        let residues: [(u64, u32, u32, u64); 6] = [
+            (2, 1, 2, 1),
+            (5, 1, 3, 2),
+            (9, 1, 4, 3),
+            (4, 2, 2, 3),
+            (13, 2, 3, 8),
+            (29, 2, 4, 15),
+        ];
+        for (number, generators, size, index) in residues {
+            prove!(1 <= number && number <= MOST_NUMBER && 1 <= generators);
+            assert_eq!(rt; residue_block(number, generators), Block { size, index });
+        }
     }
 }

@@ -1,6 +1,9 @@
-//! Numbers from 1 for texts, for tuples of permutations and for tuples of residues.
+//! Texts, permutations and tuples of residues by number: each number is exactly one of them.
 #![tactic(auto)]
 
 mod blocks;
 
-pub use blocks::{Block, MOST_DEGREE, MOST_NUMBER, action_block, perm_of, perm_places, permutations_are_numbered, residue_block, residues_are_numbered, residues_of};
+pub use blocks::{
+    Block, MOST_DEGREE, MOST_NUMBER, action_block, perm_of, perm_places, permutations_are_numbered,
+    residue_block, residues_are_numbered, residues_of,
+};

@@ -1,4 +1,4 @@
-use Rattle.std.proofs.Common.{◌≡◌, ℕ, ◌+◌, ◌++◌, ◌<◌, ◌≤◌, cond, ltb, map, take, drop, set, get_or, length, List, arith, sym, ap, ◌∙◌}
+use Rattle.std.proofs.Common.{◌≡◌, ℕ, ◌+◌, ◌++◌, ◌<◌, cond, map, take, drop, set, get_or, length, List, arith, sym, ap, ◌∙◌}
 use Rattle.std.proofs.lemmas.Bool.{lt-ltb, le-ltb}
 use Rattle.std.proofs.lemmas.List.{get_or_default}
 use Rattle.std.proofs.lemmas.List.Edits.{map_over_more}
@@ -18,6 +18,6 @@ loop-x-preserved c =
     let i = c.loop-x.x-index in
     let x = get_or c.loop-x.images i 0 in
     elim c.if-x-image.branch [
-      then-x-image w ↦ written q i (x + 1) c.args.images.now c.loop-x.images c.if-x-image.images c.loop-x-test.true c.loop-x.auto.images c.loop-x.invariant w.images-is (sym (ap (λ b. cond b x (x + 1)) (le-ltb x q w.if-x-image.true)))
-    | else-x-image w ↦ written q i x c.args.images.now c.loop-x.images c.if-x-image.images c.loop-x-test.true c.loop-x.auto.images c.loop-x.invariant w.images-is (sym (ap (λ b. cond b x (x + 1)) (lt-ltb x q w.if-x-image.false)))
+      | then-x-image w ↦ written q i (x + 1) c.args.images.now c.loop-x.images c.if-x-image.images c.loop-x-test.true c.loop-x.auto.images c.loop-x.invariant w.images-is (sym (ap (λ b. cond b x (x + 1)) (le-ltb x q w.if-x-image.true)))
+      | else-x-image w ↦ written q i x c.args.images.now c.loop-x.images c.if-x-image.images c.loop-x-test.true c.loop-x.auto.images c.loop-x.invariant w.images-is (sym (ap (λ b. cond b x (x + 1)) (lt-ltb x q w.if-x-image.false)))
     ]
