@@ -10,3 +10,7 @@ pub mod PermsLaws
 pub mod BlocksSteps
 pub mod PermsSteps
 pub mod BlocksCounts
+pub mod TextsPlain
+pub mod TextsSkip
+pub mod TextsSteps
+pub mod TextsValues

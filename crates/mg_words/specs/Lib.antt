@@ -1,0 +1,4 @@
+pub mod Letter
+pub mod Word
+pub mod Chain
+pub mod Orders
