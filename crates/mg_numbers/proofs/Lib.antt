@@ -1,3 +1,15 @@
+pub mod BlocksNth
+pub mod BlocksLex
+pub mod ResiduesRank
+pub mod PermsRank
+pub mod PermsTuples
+pub mod BlocksRank
+pub mod BlocksTuples
+pub mod ResiduesLaws
+pub mod PermsLaws
+pub mod BlocksSteps
+pub mod PermsSteps
+pub mod BlocksCounts
 pub mod TextsPlain
 pub mod TextsSkip
 pub mod TextsSteps

@@ -1,2 +1,5 @@
+pub mod Blocks
+pub mod Perms
+pub mod Residues
 pub mod Texts
 pub mod Plain

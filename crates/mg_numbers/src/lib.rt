@@ -1,8 +1,13 @@
 //! Texts, permutations and tuples of residues by number: each number is exactly one of them.
 #![tactic(auto)]
 
+mod blocks;
 mod texts;
 
+pub use blocks::{
+    Block, MOST_DEGREE, MOST_NUMBER, action_block, perm_of, perm_places, permutations_are_numbered,
+    residue_block, residues_are_numbered, residues_of,
+};
 pub use texts::{
     Digits, MOST_DIGITS, NoMemory, number_of, text_of, texts_and_numbers_correspond,
     values_are_in_shortlex_order,
