@@ -1,0 +1,3 @@
+pub mod Keyword
+pub mod Mark
+pub mod Number

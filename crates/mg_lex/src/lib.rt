@@ -1,0 +1,27 @@
+//! The session language, line by line: a line is cut into tokens, or refused at the least place.
+#![tactic(auto)]
+
+mod keyword;
+mod limits;
+mod mark;
+mod number;
+mod refusal;
+mod token;
+
+use mg_lists::List;
+
+pub use keyword::{Keyword, keyword_of};
+pub use limits::{LINE_LIMIT, NAME_LIMIT, NUMBER_LIMIT};
+pub use mark::{Mark, mark_of};
+pub use number::value_of;
+pub use refusal::{Cause, LexRefused, Refused};
+pub use token::{Token, TokenKind};
+
+/// Bytes of a name or a line.
+pub type Text = List<u8>;
+
+/// Names in order.
+pub type Names = List<Text>;
+
+/// Tokens in the order in which they stand in a line.
+pub type Tokens = List<Token>;
