@@ -1,11 +1,13 @@
 -- Laws about keywords.
-use Rattle.std.proofs.Common.{◌≡◌, ℕ, ◌<◌, ◌≤◌, List, length, get_or, refl, true, rules, lit<, lit≤}
+use Rattle.std.proofs.Common.{◌≡◌, ℕ, ◌<◌, ◌≤◌, List, length, get_or, refl, true, false, rules, lit<, lit≤}
 use Rattle.std.specs.Str.{bytes_eq}
 use Rattle.std.proofs.lemmas.Slice.Eq.{bytes_eq-Decides}
 use Rattle.mg_lex.specs.declared.keyword.Keyword.{Keyword}
 use Rattle.mg_lex.specs.declared.keyword.Keyword.TheVariants as keyword
 use Rattle.mg_lex.specs.declared.keyword.TheConstants.{KEYWORDS}
 use Rattle.mg_lex.specs.Keyword.{keyword_text}
+use Rattle.mg_lex.specs.Token.{IsWord}
+use Rattle.mg_lex.proofs.Classes.{is_sign}
 
 -- the table's keyword at a place
 abbrev pub entry : ℕ → Keyword
@@ -53,3 +55,46 @@ place_in_table keyword.Log = (35, lit< tt, refl)
 -- equal bytes are found equal
 pub same_bytes : {xs ys : List ℕ} → xs ≡ ys → bytes_eq xs ys ≡ true
 same_bytes {xs} {ys} same = search (rules, bytes_eq-Decides)
+
+-- A keyword: a word that is no relator sign.
+pub record KeywordForm (bytes : List ℕ) : Type 0 where
+  pub word : IsWord bytes
+  pub no_sign : is_sign bytes ≡ false
+
+pub keyword_form : (k : Keyword) → KeywordForm (keyword_text k)
+keyword_form keyword.Group = record { word = (refl, refl); no_sign = refl }
+keyword_form keyword.Word = record { word = (refl, refl); no_sign = refl }
+keyword_form keyword.Subgroup = record { word = (refl, refl); no_sign = refl }
+keyword_form keyword.Map = record { word = (refl, refl); no_sign = refl }
+keyword_form keyword.Ask = record { word = (refl, refl); no_sign = refl }
+keyword_form keyword.Fund = record { word = (refl, refl); no_sign = refl }
+keyword_form keyword.Grant = record { word = (refl, refl); no_sign = refl }
+keyword_form keyword.Run = record { word = (refl, refl); no_sign = refl }
+keyword_form keyword.Cancel = record { word = (refl, refl); no_sign = refl }
+keyword_form keyword.Report = record { word = (refl, refl); no_sign = refl }
+keyword_form keyword.Extend = record { word = (refl, refl); no_sign = refl }
+keyword_form keyword.Known = record { word = (refl, refl); no_sign = refl }
+keyword_form keyword.See = record { word = (refl, refl); no_sign = refl }
+keyword_form keyword.By = record { word = (refl, refl); no_sign = refl }
+keyword_form keyword.Back = record { word = (refl, refl); no_sign = refl }
+keyword_form keyword.In = record { word = (refl, refl); no_sign = refl }
+keyword_form keyword.Out = record { word = (refl, refl); no_sign = refl }
+keyword_form keyword.Of = record { word = (refl, refl); no_sign = refl }
+keyword_form keyword.Kernel = record { word = (refl, refl); no_sign = refl }
+keyword_form keyword.Trivial = record { word = (refl, refl); no_sign = refl }
+keyword_form keyword.Abelian = record { word = (refl, refl); no_sign = refl }
+keyword_form keyword.Central = record { word = (refl, refl); no_sign = refl }
+keyword_form keyword.Normal = record { word = (refl, refl); no_sign = refl }
+keyword_form keyword.Extends = record { word = (refl, refl); no_sign = refl }
+keyword_form keyword.Onto = record { word = (refl, refl); no_sign = refl }
+keyword_form keyword.Index = record { word = (refl, refl); no_sign = refl }
+keyword_form keyword.Infinite = record { word = (refl, refl); no_sign = refl }
+keyword_form keyword.Derive = record { word = (refl, refl); no_sign = refl }
+keyword_form keyword.Act = record { word = (refl, refl); no_sign = refl }
+keyword_form keyword.Residue = record { word = (refl, refl); no_sign = refl }
+keyword_form keyword.Rewrite = record { word = (refl, refl); no_sign = refl }
+keyword_form keyword.Cosets = record { word = (refl, refl); no_sign = refl }
+keyword_form keyword.Nielsen = record { word = (refl, refl); no_sign = refl }
+keyword_form keyword.Recall = record { word = (refl, refl); no_sign = refl }
+keyword_form keyword.Facts = record { word = (refl, refl); no_sign = refl }
+keyword_form keyword.Log = record { word = (refl, refl); no_sign = refl }

@@ -1,2 +1,5 @@
+mod Classes
 mod Keywords
 mod Numbers
+mod Words
+mod Cuts

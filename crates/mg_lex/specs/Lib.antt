@@ -1,3 +1,6 @@
 pub mod Keyword
 pub mod Mark
 pub mod Number
+pub mod Token
+pub mod Line
+pub mod Cause

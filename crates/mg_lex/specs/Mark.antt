@@ -1,5 +1,5 @@
 -- Punctuation marks.
-use Rattle.std.specs.Prelude.{◌≡◌, ℕ, List, codes}
+use Rattle.std.specs.Prelude.{◌≡◌, ℕ, ◌≤◌, List, length, take, codes}
 use Rattle.mg_lex.specs.declared.mark.Mark.{Mark}
 use Rattle.mg_lex.specs.declared.mark.Mark.TheVariants as mark
 
@@ -24,3 +24,9 @@ mark_text mark.Arrow = codes "->"
 -- the bytes write a mark
 abbrev pub IsMark : List ℕ → Type 0
 IsMark bytes = (m : Mark) × (mark_text m ≡ bytes)
+
+-- a mark of this length stands at the front, and no longer one does
+pub record IsLongestMark (bytes : List ℕ) (len : ℕ) : Type 0 where
+  pub within : len ≤ length bytes
+  pub mark : IsMark (take len bytes)
+  pub longest : (n : ℕ) → n ≤ length bytes → IsMark (take n bytes) → n ≤ len

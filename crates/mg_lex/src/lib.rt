@@ -6,7 +6,9 @@ mod limits;
 mod mark;
 mod number;
 mod refusal;
+mod scanner;
 mod token;
+mod word;
 
 use mg_lists::List;
 
