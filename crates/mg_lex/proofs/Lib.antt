@@ -3,3 +3,5 @@ mod Keywords
 mod Numbers
 mod Words
 mod Cuts
+mod Firsts
+mod Steps

@@ -4,3 +4,4 @@ pub mod Number
 pub mod Token
 pub mod Line
 pub mod Cause
+pub mod Step

@@ -1,6 +1,8 @@
 //! The session language, line by line: a line is cut into tokens, or refused at the least place.
 #![tactic(auto)]
 
+mod class;
+mod front;
 mod keyword;
 mod limits;
 mod mark;

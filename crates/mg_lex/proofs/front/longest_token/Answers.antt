@@ -4,7 +4,7 @@ use Rattle.std.specs.Char.{is_ascii_alphabetic, is_ascii_digit}
 use Rattle.mg_lex.specs.Token.{is_word_byte, IsWord, IsToken}
 use Rattle.mg_lex.specs.Line.{IsLongest}
 use Rattle.mg_lex.proofs.Words.{word_at_front, word_is_longest, number_is_longest, mark_is_longest, none_begins}
-use Rattle.mg_lex.proofs.scanner.longest.Goals as goal
+use Rattle.mg_lex.proofs.front.longest_token.Goals as goal
 
 pub word_kind-requires : goal.word_kind-requires
 word_kind-requires c =

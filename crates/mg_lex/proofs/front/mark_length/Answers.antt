@@ -1,7 +1,6 @@
 use Rattle.std.proofs.Common.{refl, sym, ◌∙◌}
-use Rattle.mg_lex.proofs.Cuts.{taken}
 use Rattle.mg_lex.proofs.Words.{two_bytes_longest, one_byte_longest, no_mark}
-use Rattle.mg_lex.proofs.scanner.mark_length.Goals as goal
+use Rattle.mg_lex.proofs.front.mark_length.Goals as goal
 
 pub returns-then-has_mark-clause-some : goal.returns-then-has_mark-clause-some
 returns-then-has_mark-clause-some c =
