@@ -12,7 +12,7 @@ use Rattle.mg_lex.specs.declared.token.Token.{Token}
 use Rattle.mg_lex.specs.Line.{is_allowed, is_blank, BeginsComment, BeginsNone, AreBlanks, IsEnd, IsLongestAtStart, IsWithinLimits}
 use Rattle.mg_lex.specs.Step.{ComesNext, IsClean}
 use Rattle.mg_lex.proofs.Cuts.{blanks_join}
-use Rattle.mg_lex.proofs.Firsts.{allowed_at, allowed_within, behind_allowed, first_bad_byte, first_lack, first_long_line_in_comment, first_bad_byte_in_comment, first_long_line_inside, faultless, none_at, none_at_end, none_at_limit}
+use Rattle.mg_lex.proofs.Firsts.{clean_blanks, allowed_at, allowed_within, behind_allowed, first_bad_byte, first_lack, first_long_line_in_comment, first_bad_byte_in_comment, first_long_line_inside, faultless, none_at, none_at_end, none_at_limit}
 
 -- no blanks
 pub no_blanks : (line : List ℕ) (place : ℕ) → place ≤ length line → AreBlanks line place place
@@ -77,3 +77,9 @@ module _ (line : List ℕ) (p : ℕ) (clean : IsClean line p) (within : p ≤ le
   pub bad_byte_here : p ≤ LINE_LIMIT → p < length line → BeginsNone (drop p line) → is_allowed (get_or line p 0) ≡ false → ComesNext line p (step.Refused (record { place = p; cause = cause.BadByte; token = None })) p
   bad_byte_here low inside none not_allowed =
       (no_blanks line p within, first_bad_byte line p clean low inside not_allowed, none_at line p clean none, inl (omega arith))
+
+-- blanks pass the limit of lines
+pub long_line_next : (line : List ℕ) (from to : ℕ) → IsClean line from → AreBlanks line from to → LINE_LIMIT < to → ComesNext line from (step.Refused (record { place = LINE_LIMIT; cause = cause.LineTooLong; token = None })) to
+long_line_next line from to clean blanks high =
+    next_behind_blanks line from to (step.Refused (record { place = LINE_LIMIT; cause = cause.LineTooLong; token = None })) to blanks
+    (long_line_inside line to (clean_blanks line from to clean blanks) blanks.within high)

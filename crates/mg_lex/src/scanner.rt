@@ -82,6 +82,12 @@ impl<'a> Scanner<'a> {
         self.place += blanks_length(self.rest());
     }
 
+    fn is_at_end(&self) -> bool
+        ensures { IsTrue result ↔ IsEnd self.now.line.now self.now.place }
+    {
+        self.place == self.line.len() || self.line[self.place] == COMMENT
+    }
+
     /// At the end of the line or at a comment.
     fn end(&self) -> Step
         requires clean { IsClean self.now.line.now self.now.place }
@@ -156,7 +162,7 @@ impl<'a> Scanner<'a> {
         if self.place > LINE_LIMIT {
             return Step::Refused(Fault { place: LINE_LIMIT, cause: Cause::LineTooLong, token: None });
         }
-        if self.place == self.line.len() || self.line[self.place] == COMMENT {
+        if self.is_at_end() {
             return self.end();
         }
         self.token()
