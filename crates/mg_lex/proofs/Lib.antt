@@ -5,3 +5,4 @@ mod Words
 mod Cuts
 mod Firsts
 mod Steps
+mod Lines

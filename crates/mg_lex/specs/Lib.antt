@@ -5,3 +5,4 @@ pub mod Token
 pub mod Line
 pub mod Cause
 pub mod Step
+pub mod Refusal

@@ -5,6 +5,7 @@ mod class;
 mod front;
 mod keyword;
 mod limits;
+mod line;
 mod mark;
 mod number;
 mod refusal;
@@ -16,6 +17,7 @@ use mg_lists::List;
 
 pub use keyword::{Keyword, keyword_of};
 pub use limits::{LINE_LIMIT, NAME_LIMIT, NUMBER_LIMIT};
+pub use line::{FirstFault, Lexed, lex, tokens};
 pub use mark::{Mark, mark_of};
 pub use number::value_of;
 pub use refusal::{Cause, LexRefused, Refused};

@@ -50,6 +50,7 @@ fn is_large_number(kind: TokenKind, text: &[u8]) -> bool
 }
 
 /// A place in a line. What stands before it has been read.
+#[derive(Drop)]
 pub(crate) struct Scanner<'a> {
     pub(crate) line: &'a [u8],
     pub(crate) place: usize,
