@@ -3,11 +3,12 @@ use Rattle.std.proofs.Common.{◌≡◌, ℕ, zero, suc, ◌+◌, ◌-◌, ◌<�
 use Rattle.std.specs.Prelude.{◌==◌, not}
 use Rattle.std.specs.List.{AllByRecursion, list_all}
 use Rattle.std.proofs.lemmas.Bool.Decides.{nat_tests}
+use Rattle.std.proofs.lemmas.Option.{get_or_from_slice_get}
 use Rattle.std.proofs.str.Laws.{order}
 use Rattle.mg_lex.specs.declared.token.Token.{Token}
 use Rattle.mg_lex.specs.declared.token.TokenKind.{TokenKind}
 use Rattle.mg_lex.specs.Token.{IsToken}
-use Rattle.mg_lex.specs.Line.{is_allowed, is_blank, IsLongest, AreBlanks, IsLongestAtStart, Cuts}
+use Rattle.mg_lex.specs.Line.{is_allowed, is_blank, IsLongest, AreBlanks, IsLongestAtStart, Cuts, IsEnd, AreTokens}
 use Rattle.mg_lex.proofs.Classes.{is_token_byte, and_true, true_and}
 use Rattle.mg_lex.proofs.Numbers.{slice_all-at}
 use Rattle.mg_lex.proofs.Words.{token_nonempty, token_bytes_are, one_kind}
@@ -84,9 +85,9 @@ cut_bytes line from (t ∷ ts) to cut i after before =
     ⊎_elim
     (λ blank. blank_is_code (get_or line i 0) (cut.0.blank i after blank))
     (λ in_token. ⊎_elim
-      (λ inside. token_byte_is_code (get_or line i 0) (token_byte line t cut.1 i in_token inside))
-      (λ behind. cut_bytes line (t.start + t.length) ts to cut.2 i behind before)
-      (order i (t.start + t.length)))
+    (λ inside. token_byte_is_code (get_or line i 0) (token_byte line t cut.1 i in_token inside))
+    (λ behind. cut_bytes line (t.start + t.length) ts to cut.2 i behind before)
+    (order i (t.start + t.length)))
     (order i t.start)
 
 pub blanks_join : (line : List ℕ) (from mid to : ℕ) → AreBlanks line from mid → AreBlanks line mid to → AreBlanks line from to
@@ -122,9 +123,9 @@ taken line P from (t ∷ ts) [] p q cut other no_blank before all =
     ⊎_elim
     (λ low. absurd (blank_or_not (get_or line q 0) (cut.0.blank q other.ordered low) no_blank))
     (λ high. ⊎_elim
-      (λ below. absurd (blank_or_not (get_or line t.start 0) (other.blank t.start cut.0.ordered below) (token_no_blank line t cut.1)))
-      (λ above. (t, omega arith, cut.1, all.0))
-      (order t.start q))
+    (λ below. absurd (blank_or_not (get_or line t.start 0) (other.blank t.start cut.0.ordered below) (token_no_blank line t cut.1)))
+    (λ above. (t, omega arith, cut.1, all.0))
+    (order t.start q))
     (order q t.start)
 taken line P from [] (u ∷ us) p q cut other no_blank before all =
     let ordered = cut_ordered line (u.start + u.length) us q other.2 in
@@ -133,11 +134,64 @@ taken line P from (t ∷ ts) (u ∷ us) p q cut other no_blank before all =
     ⊎_elim
     (λ low. absurd (blank_or_not (get_or line u.start 0) (cut.0.blank u.start other.0.ordered low) (token_no_blank line u other.1)))
     (λ high. ⊎_elim
-      (λ below. absurd (blank_or_not (get_or line t.start 0) (other.0.blank t.start cut.0.ordered below) (token_no_blank line t cut.1)))
-      (λ above.
-          let start : u.start ≡ t.start = omega arith in
-          let same : u.length ≡ t.length = one_length (drop t.start line) u.kind t.kind u.length t.length (subst (λ (s : ℕ). IsLongest (drop s line) u.kind u.length) start other.1) cut.1 in
-          let next : u.start + u.length ≡ t.start + t.length = omega arith in
-          taken line P (t.start + t.length) ts us p q cut.2 (subst (λ (f : ℕ). Cuts line f us q) next other.2) no_blank before all.1)
-      (order t.start u.start))
+    (λ below. absurd (blank_or_not (get_or line t.start 0) (other.0.blank t.start cut.0.ordered below) (token_no_blank line t cut.1)))
+    (λ above.
+    let start : u.start ≡ t.start = omega arith in
+    let same : u.length ≡ t.length = one_length (drop t.start line) u.kind t.kind u.length t.length (subst (λ (s : ℕ). IsLongest (drop s line) u.kind u.length) start other.1) cut.1 in
+    let next : u.start + u.length ≡ t.start + t.length = omega arith in
+    taken line P (t.start + t.length) ts us p q cut.2 (subst (λ (f : ℕ). Cuts line f us q) next other.2) no_blank before all.1)
+    (order t.start u.start))
     (order u.start t.start)
+
+-- a token of its fields
+abbrev token_of : TokenKind → ℕ → ℕ → Token
+token_of k start len = record { kind = k; start = start; length = len }
+
+same_fields : (t u : Token) → t.kind ≡ u.kind → t.start ≡ u.start → t.length ≡ u.length → t ≡ u
+same_fields t u kinds starts lengths =
+    let same : token_of t.kind t.start t.length ≡ token_of u.kind u.start u.length = cc in same
+
+-- up to a place a line is cut in one way
+pub one_cut : (line : List ℕ) (from : ℕ) (ts us : List Token) (to : ℕ) → Cuts line from ts to → Cuts line from us to → ts ≡ us
+one_cut line from [] [] to cut other = refl
+one_cut line from [] (u ∷ us) to cut other =
+    let ordered = cut_ordered line (u.start + u.length) us to other.2 in
+    absurd (blank_or_not (get_or line u.start 0) (cut.blank u.start other.0.ordered (omega (arith, ordered.0, token_some line u other.1))) (token_no_blank line u other.1))
+one_cut line from (t ∷ ts) [] to cut other =
+    let ordered = cut_ordered line (t.start + t.length) ts to cut.2 in
+    absurd (blank_or_not (get_or line t.start 0) (other.blank t.start cut.0.ordered (omega (arith, ordered.0, token_some line t cut.1))) (token_no_blank line t cut.1))
+one_cut line from (t ∷ ts) (u ∷ us) to cut other =
+    ⊎_elim
+    (λ low. absurd (blank_or_not (get_or line u.start 0) (cut.0.blank u.start other.0.ordered low) (token_no_blank line u other.1)))
+    (λ high. ⊎_elim
+    (λ below. absurd (blank_or_not (get_or line t.start 0) (other.0.blank t.start cut.0.ordered below) (token_no_blank line t cut.1)))
+    (λ above.
+    let start : u.start ≡ t.start = omega arith in
+    let here = subst (λ (s : ℕ). IsLongest (drop s line) u.kind u.length) start other.1 in
+    let same : u.length ≡ t.length = one_length (drop t.start line) u.kind t.kind u.length t.length here cut.1 in
+    let kinds : u.kind ≡ t.kind = longest_kind (drop t.start line) u.kind t.kind u.length t.length here cut.1 in
+    let next : u.start + u.length ≡ t.start + t.length = omega arith in
+    let heads : t ≡ u = same_fields t u (sym kinds) (sym start) (sym same) in
+    let tails : ts ≡ us = one_cut line (t.start + t.length) ts us to cut.2 (subst (λ (f : ℕ). Cuts line f us to) next other.2) in
+    cc)
+    (order t.start u.start))
+    (order u.start t.start)
+
+-- the end of what is cut is one place
+not_cut_behind_end : (line : List ℕ) (us : List Token) (p q : ℕ) → IsEnd line p → Cuts line 0 us q → q ≤ p
+not_cut_behind_end line us p q (inl whole) cut = omega (arith, cut_ordered line 0 us q cut)
+not_cut_behind_end line us p q (inr comment) cut =
+    ⊎_elim
+    (λ behind.
+    let byte : get_or line p 0 ≡ 35 = get_or_from_slice_get line p 35 0 comment in
+    let code = subst (λ (b : ℕ). is_code b ≡ true) byte (cut_bytes line 0 us q cut p (omega arith) behind) in
+    absurd cc)
+    (λ before. before)
+    (order p q)
+
+-- a line has one list of tokens
+pub one_whole : (line : List ℕ) (ts us : List Token) → AreTokens line ts → AreTokens line us → ts ≡ us
+one_whole line ts us first second =
+    let end : second.end ≡ first.end =
+    omega (arith, not_cut_behind_end line ts second.end first.end second.ended first.cut, not_cut_behind_end line us first.end second.end first.ended second.cut) in
+    one_cut line 0 ts us first.end first.cut (subst (Cuts line 0 us) end second.cut)

@@ -121,9 +121,9 @@ module _ (line : List ℕ) (p : ℕ) (clean : IsClean line p) where
   reached_before_comment comment q reached =
       ⊎_elim
       (λ behind.
-          let byte : get_or line p 0 ≡ 35 = get_or_from_slice_get line p 35 0 comment in
-          let code = subst (λ (b : ℕ). is_code b ≡ true) byte (cut_bytes line 0 reached.0 q reached.1 p (omega arith) behind) in
-          absurd cc)
+      let byte : get_or line p 0 ≡ 35 = get_or_from_slice_get line p 35 0 comment in
+      let code = subst (λ (b : ℕ). is_code b ≡ true) byte (cut_bytes line 0 reached.0 q reached.1 p (omega arith) behind) in
+      absurd cc)
       (λ before. before)
       (order p q)
 
@@ -306,3 +306,40 @@ module _ (line : List ℕ) (p : ℕ) (clean : IsClean line p) where
     first_large_number low short number large =
         let has : HasLargeNumber line p = record { token = t; taken = here_taken; start = start; number = number; large = large } in
         first_from line p cause.NumberTooLarge has (omega arith) (number_too_large_least line p allowed_here low (no_bad_token_here short)) (none_before line p clean)
+
+-- a cause is known by its number
+abbrev causes : List Cause
+causes = cause.BadByte ∷ cause.BadToken ∷ cause.Unexpected ∷ cause.LineTooLong ∷ cause.NumberTooLarge ∷ cause.WordTooLong ∷ cause.TooMany ∷ cause.NameTaken ∷ cause.UnknownName ∷ cause.WrongKind ∷ cause.UnknownGenerator ∷ cause.GeneratorTwice ∷ cause.ImageMissing ∷ cause.ProcedureDoesNotApply ∷ []
+
+abbrev cause_from : ℕ → Cause
+cause_from n = get_or causes (n - 1) cause.BadByte
+
+cause_back : (c : Cause) → cause_from (cause_number c) ≡ c
+cause_back cause.BadByte = refl
+cause_back cause.BadToken = refl
+cause_back cause.Unexpected = refl
+cause_back cause.LineTooLong = refl
+cause_back cause.NumberTooLarge = refl
+cause_back cause.WordTooLong = refl
+cause_back cause.TooMany = refl
+cause_back cause.NameTaken = refl
+cause_back cause.UnknownName = refl
+cause_back cause.WrongKind = refl
+cause_back cause.UnknownGenerator = refl
+cause_back cause.GeneratorTwice = refl
+cause_back cause.ImageMissing = refl
+cause_back cause.ProcedureDoesNotApply = refl
+
+same_number : (c d : Cause) → cause_number c ≡ cause_number d → c ≡ d
+same_number c d same = sym (cause_back c) ∙ ap cause_from same ∙ cause_back d
+
+-- a line has one first cause, at one place
+pub one_first : (line : List ℕ) (p q : ℕ) (c d : Cause) → IsFirstCause line p c → IsFirstCause line q d → (p ≡ q) × (c ≡ d)
+one_first line p q c d first second =
+    ⊎_elim
+    (λ before. ⊎_elim (λ behind. absurd (omega arith)) (λ same. absurd (omega (arith, same.0))) (second.first p c first.stands))
+    (λ same. ⊎_elim
+    (λ behind. absurd (omega (arith, same.0)))
+    (λ other. (same.0, same_number c d (omega (arith, same.1, other.1))))
+    (second.first p c first.stands))
+    (first.first q d second.stands)

@@ -66,4 +66,5 @@ read_to_fault line ts from f to read next = record {
   cut = cut_blanks line 0 ts from to read.cut next.0;
   reaches = next.3;
   before = starts_before line 0 ts from f.place read.cut read.within_limits (fault_place line from (record { tokens = ts; cut = read.cut; within_limits = read.within_limits }) f.place f.cause next.1.stands);
+  within_limits = read.within_limits;
 }

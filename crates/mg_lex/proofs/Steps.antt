@@ -52,7 +52,7 @@ module _ (line : List ℕ) (p : ℕ) (clean : IsClean line p) (within : p ≤ le
     pub bad_byte_at_end : p + n ≤ LINE_LIMIT → p + n < length line → ComesNext line p (step.Refused (record { place = p + n; cause = cause.BadByte; token = None })) p
     bad_byte_at_end low_bad inside =
         let bad : is_allowed (get_or line (p + n) 0) ≡ false =
-            subst (λ (m : ℕ). p + m < length line → is_allowed (get_or line (p + m) 0) ≡ false) (sym count) (behind_allowed line p) inside in (
+        subst (λ (m : ℕ). p + m < length line → is_allowed (get_or line (p + m) 0) ≡ false) (sym count) (behind_allowed line p) inside in (
           no_blanks line p within,
           first_bad_byte_in_comment line p clean end (p + n) (omega arith) allowed_up_to low_bad inside bad,
           none_at_end line p clean end (p + n) (omega arith),

@@ -7,7 +7,7 @@ use Rattle.mg_lex.specs.declared.refusal.Cause.TheVariants as cause
 use Rattle.mg_lex.specs.declared.token.Token.{Token}
 use Rattle.mg_lex.specs.declared.token.TokenKind.TheVariants as kind
 use Rattle.mg_lex.specs.Number.{number_value}
-use Rattle.mg_lex.specs.Line.{is_allowed, is_blank, BeginsComment, BeginsNone, Cuts, IsReached, IsTaken, token_bytes}
+use Rattle.mg_lex.specs.Line.{is_allowed, is_blank, BeginsComment, BeginsNone, Cuts, IsReached, IsTaken, IsWithinLimits, token_bytes}
 
 -- the number of a cause: at one place the cause with the least number is answered
 abbrev pub cause_number : Cause → ℕ
@@ -68,12 +68,13 @@ pub record IsFirstCause (line : List ℕ) (place : ℕ) (c : Cause) : Type 0 whe
   pub stands : Stands line place c
   pub first : (q : ℕ) (d : Cause) → Stands line q d → (place < q) ⊎ ((place ≡ q) × (cause_number c ≤ cause_number d))
 
--- the tokens that begin before the place: they cut the line up to it, or up to a comment
+-- the tokens that begin before the place: they cut the line up to it, or up to a comment, and pass no limit
 pub record AreTokensBefore (line : List ℕ) (place : ℕ) (ts : List Token) : Type 0 where
   pub end : ℕ
   pub cut : Cuts line 0 ts end
   pub reaches : (place ≤ end) ⊎ BeginsComment line end
   pub before : AllByRecursion (λ t. t.start < place) ts
+  pub within_limits : AllByRecursion (IsWithinLimits line) ts
 
 -- the token that begins at the place, if one does
 abbrev pub IsTokenAt : List ℕ → ℕ → Option Token → Type 0

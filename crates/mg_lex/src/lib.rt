@@ -4,6 +4,7 @@
 mod class;
 mod front;
 mod keyword;
+mod laws;
 mod limits;
 mod line;
 mod mark;
@@ -13,12 +14,12 @@ mod scanner;
 mod token;
 mod word;
 
-use mg_lists::List;
-
 pub use keyword::{Keyword, keyword_of};
+pub use laws::{one_kind, one_reading, one_refusal};
 pub use limits::{LINE_LIMIT, NAME_LIMIT, NUMBER_LIMIT};
 pub use line::{FirstFault, Lexed, lex, tokens};
 pub use mark::{Mark, mark_of};
+use mg_lists::List;
 pub use number::value_of;
 pub use refusal::{Cause, LexRefused, Refused};
 pub use token::{Token, TokenKind};
@@ -31,3 +32,6 @@ pub type Names = List<Text>;
 
 /// Tokens in the order in which they stand in a line.
 pub type Tokens = List<Token>;
+
+#[cfg(test)]
+mod tests;

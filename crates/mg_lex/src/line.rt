@@ -37,8 +37,15 @@ fn first_fault(fault: Fault, number: u32) -> FirstFault
     ensures token { result.token ≡ fault.token }
 {
     let column = fault.place as u32 + 1;
-    let refused = Refused { line: number, column, cause: fault.cause };
-    FirstFault { refused, token: fault.token }
+    let refused = Refused {
+        line: number,
+        column,
+        cause: fault.cause,
+    };
+    FirstFault {
+        refused,
+        token: fault.token,
+    }
 }
 
 /// The tokens of a line before its first fault, and that fault, if it has one. The line is handed
@@ -60,7 +67,10 @@ pub fn lex(alloc: Global, line: &[u8], number: u32) -> Result<Lexed, NoMemory>
     loop {
         match scanner.next() {
             Step::Token(token) => tokens.push(token)?,
-            Step::End => return Ok(Lexed { tokens, fault: None }),
+            Step::End => return Ok(Lexed {
+                tokens,
+                fault: None,
+            }),
             Step::Refused(fault) => {
                 let fault = Some(first_fault(fault, number));
                 return Ok(Lexed { tokens, fault });

@@ -18,5 +18,9 @@ pub fn value_of(digits: &[u8]) -> Option<u64>
         }
         value = 10 * value + (*digit - b'0') as u64;
     }
-    if value > NUMBER_LIMIT { None } else { Some(value) }
+    if value > NUMBER_LIMIT {
+        None
+    } else {
+        Some(value)
+    }
 }

@@ -1,6 +1,8 @@
 //! Why and where a script is refused.
 
-use mg_lists::NoMemory;
+ghost use Rattle.std.specs.Prelude.{◌≡◌, ◌<◌, ◌↔◌, IsTrue};
+ghost use Rattle.mg_lex.specs.Cause.{cause_number};
+
 use thiserror::Error;
 
 /// Why a script is refused. At one place the cause that stands first here is answered.
@@ -34,6 +36,22 @@ pub enum Cause {
     ImageMissing,
     /// A procedure that can't be used on the question.
     ProcedureDoesNotApply,
+}
+
+impl Cause {
+    /// Its number, from 1.
+    pub fn number(self) -> u8
+        ensures { result ≡ cause_number self }
+    {
+        self as u8 + 1
+    }
+
+    /// Whether it stands before the other in the order of causes, which is that of their numbers.
+    pub fn is_before(self, other: Cause) -> bool
+        ensures { IsTrue result ↔ (cause_number self < cause_number other) }
+    {
+        self < other
+    }
 }
 
 /// Where a script is refused, and why.

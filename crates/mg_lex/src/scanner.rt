@@ -98,10 +98,18 @@ impl<'a> Scanner<'a> {
     {
         let bad = self.place + allowed_length(self.rest());
         if bad > LINE_LIMIT {
-            return Step::Refused(Fault { place: LINE_LIMIT, cause: Cause::LineTooLong, token: None });
+            return Step::Refused(Fault {
+                place: LINE_LIMIT,
+                cause: Cause::LineTooLong,
+                token: None,
+            });
         }
         if bad < self.line.len() {
-            return Step::Refused(Fault { place: bad, cause: Cause::BadByte, token: None });
+            return Step::Refused(Fault {
+                place: bad,
+                cause: Cause::BadByte,
+                token: None,
+            });
         }
         Step::End
     }
@@ -121,8 +129,7 @@ impl<'a> Scanner<'a> {
         if self.place >= LINE_LIMIT {
             return Some(Cause::LineTooLong);
         }
-        let text = &self.rest()[..token.length as usize];
-        if is_large_number(token.kind, text) {
+        if is_large_number(token.kind, token.bytes(self.line)) {
             return Some(Cause::NumberTooLarge);
         }
         None
@@ -140,12 +147,28 @@ impl<'a> Scanner<'a> {
     {
         let place = self.place;
         let Some((kind, length)) = longest_token(self.rest()) else {
-            let cause = if is_allowed(self.line[place]) { Cause::BadToken } else { Cause::BadByte };
-            return Step::Refused(Fault { place, cause, token: None });
+            let cause = if is_allowed(self.line[place]) {
+                Cause::BadToken
+            } else {
+                Cause::BadByte
+            };
+            return Step::Refused(Fault {
+                place,
+                cause,
+                token: None,
+            });
         };
-        let token = Token { kind, start: place as u32, length: length as u32 };
+        let token = Token {
+            kind,
+            start: place as u32,
+            length: length as u32,
+        };
         match self.cause_of(token) {
-            Some(cause) => Step::Refused(Fault { place, cause, token: Some(token) }),
+            Some(cause) => Step::Refused(Fault {
+                place,
+                cause,
+                token: Some(token),
+            }),
             None => {
                 self.place += length;
                 Step::Token(token)
@@ -161,7 +184,11 @@ impl<'a> Scanner<'a> {
     {
         self.skip_blanks();
         if self.place > LINE_LIMIT {
-            return Step::Refused(Fault { place: LINE_LIMIT, cause: Cause::LineTooLong, token: None });
+            return Step::Refused(Fault {
+                place: LINE_LIMIT,
+                cause: Cause::LineTooLong,
+                token: None,
+            });
         }
         if self.is_at_end() {
             return self.end();

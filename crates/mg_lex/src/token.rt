@@ -1,5 +1,8 @@
 //! Tokens, as spans of a line.
 
+ghost use Rattle.std.specs.Prelude.{◌≡◌, ◌+◌, ◌≤◌, length};
+ghost use Rattle.mg_lex.specs.Line.{token_bytes};
+
 /// What a token is.
 #[derive(Clone, Copy, Debug, PartialEq, Eq)]
 pub enum TokenKind {
@@ -23,4 +26,15 @@ pub struct Token {
     pub start: u32,
     /// How many bytes it has.
     pub length: u32,
+}
+
+impl Token {
+    /// Its bytes in the line that it stands in.
+    pub fn bytes<'a>(&self, line: &'a [u8]) -> &'a [u8]
+        requires { self.now.start + self.now.length ≤ length line.now }
+        ensures { result.now ≡ token_bytes line.now self.now }
+    {
+        let start = self.start as usize;
+        &line[start..start + self.length as usize]
+    }
 }

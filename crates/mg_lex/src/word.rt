@@ -26,7 +26,10 @@ pub(crate) fn word_length(bytes: &[u8]) -> usize
 pub(crate) fn digits_length(bytes: &[u8]) -> usize
     ensures { result ≡ prefix_len is_ascii_digit bytes.now }
 {
-    bytes.iter().take_while(|byte| byte.is_ascii_digit()).count()
+    bytes
+        .iter()
+        .take_while(|byte| byte.is_ascii_digit())
+        .count()
 }
 
 fn are_digits(bytes: &[u8]) -> bool

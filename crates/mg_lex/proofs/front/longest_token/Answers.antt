@@ -17,7 +17,7 @@ returns-then-is_ascii_alphabetic-clause-some c =
     let some : 0 < length c.args.bytes.now = search rules in
     let letter : is_ascii_alphabetic (get_or c.args.bytes.now 0 0) ≡ true = search rules in
     let is : IsToken c.word_kind.result (take (prefix_len is_word_byte c.args.bytes.now) c.args.bytes.now) =
-        subst (λ (n : ℕ). IsToken c.word_kind.result (take n c.args.bytes.now)) c.word_length-length.ensures c.word_kind.ensures in
+    subst (λ (n : ℕ). IsToken c.word_kind.result (take n c.args.bytes.now)) c.word_length-length.ensures c.word_kind.ensures in
     subst (IsLongest c.args.bytes.now c.word_kind.result) (sym c.word_length-length.ensures) (word_is_longest c.word_kind.result c.args.bytes.now some letter is)
 
 pub returns-then-is_ascii_digit-clause-some : goal.returns-then-is_ascii_digit-clause-some

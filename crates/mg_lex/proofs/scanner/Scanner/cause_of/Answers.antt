@@ -1,8 +1,7 @@
-use Rattle.std.proofs.Common.{◌≡◌, ℕ, ◌<◌, List, length, take, drop, arith, subst, sym, ap, ◌∙◌}
-use Rattle.mg_lex.specs.declared.token.TokenKind.TheVariants as kind
-use Rattle.mg_lex.specs.declared.limits.TheConstants.{NAME_LIMIT, NUMBER_LIMIT}
+use Rattle.std.proofs.Common.{ℕ, ◌<◌, List, subst, arith}
+use Rattle.mg_lex.specs.declared.limits.TheConstants.{NUMBER_LIMIT}
 use Rattle.mg_lex.specs.Number.{number_value}
-use Rattle.mg_lex.specs.Token.{IsToken}
+use Rattle.mg_lex.proofs.Cuts.{token_within}
 use Rattle.mg_lex.proofs.Firsts.{first_long_name, first_long_line_at_token, first_large_number}
 use Rattle.mg_lex.proofs.scanner.Scanner.cause_of.Goals as goal
 
@@ -17,10 +16,8 @@ returns-then-self-ge-LINE_LIMIT-clause-some c =
     first_long_line_at_token c.args.self.now.line.now c.args.self.now.place c.requires.clean c.args.token c.requires.start c.requires.longest (omega arith)
     (λ long. let yes_long = c.is_long_name.ensures.1 long in let not_long = c.if-is_long_name.false in cc)
 
-pub is_large_number-requires : goal.is_large_number-requires
-is_large_number-requires c =
-    let at_place : c.rest.result.now ≡ drop c.args.token.start c.args.self.now.line.now = c.rest.ensures.rest ∙ ap (λ (p : ℕ). drop p c.args.self.now.line.now) (sym c.requires.start) in
-    subst (λ (bytes : List ℕ). IsToken c.args.token.kind (take c.args.token.length bytes)) (sym at_place) c.requires.longest.token
+pub bytes-requires : goal.bytes-requires
+bytes-requires c = token_within c.args.self.now.line.now c.args.token c.requires.longest
 
 pub returns-then-is_large_number-clause-some : goal.returns-then-is_large_number-clause-some
 returns-then-is_large_number-clause-some c =
@@ -28,4 +25,4 @@ returns-then-is_large_number-clause-some c =
     first_large_number c.args.self.now.line.now c.args.self.now.place c.requires.clean c.args.token c.requires.start c.requires.longest c.if-self-ge-LINE_LIMIT.false
     (λ long. let yes_long = c.is_long_name.ensures.1 long in let not_long = c.if-is_long_name.false in cc)
     large.0
-    (subst (λ (bytes : List ℕ). NUMBER_LIMIT < number_value (take c.args.token.length bytes)) (c.rest.ensures.rest ∙ ap (λ (p : ℕ). drop p c.args.self.now.line.now) (sym c.requires.start)) large.1)
+    (subst (λ (bytes : List ℕ). NUMBER_LIMIT < number_value bytes) c.bytes.ensures large.1)
