@@ -1,7 +1,7 @@
 -- Which cause stands first in a line.
-use Rattle.std.proofs.Common.{◌≡◌, ℕ, zero, suc, ◌+◌, ◌-◌, ◌<◌, ◌≤◌, Bool, true, false, List, [], ◌∷◌, length, get_or, take, drop, refl, sym, ap, ◌∙◌, subst, arith, ◌⊎◌, inl, inr, ⊎_elim, length-drop, get_or-drop}
-use Rattle.std.specs.Prelude.{Option, Some, None, slice_get}
-use Rattle.std.specs.List.{AllByRecursion, prefix_len}
+use Rattle.std.proofs.Common.{◌≡◌, ℕ, ◌+◌, ◌-◌, ◌<◌, ◌≤◌, Bool, true, false, List, [], ◌∷◌, length, get_or, drop, refl, sym, ap, ◌∙◌, subst, arith, ◌⊎◌, inl, inr, ⊎_elim, length-drop, get_or-drop}
+use Rattle.std.specs.Prelude.{Some, None}
+use Rattle.std.specs.List.{prefix_len}
 use Rattle.std.proofs.lemmas.List.Sums.{prefix_len-le-length, prefix_len_passes, prefix_len_stops}
 use Rattle.std.proofs.lemmas.Option.{get_or_from_slice_get}
 use Rattle.std.proofs.str.Laws.{order}
@@ -9,14 +9,13 @@ use Rattle.mg_lex.specs.declared.limits.TheConstants.{LINE_LIMIT, NAME_LIMIT, NU
 use Rattle.mg_lex.specs.declared.refusal.Cause.{Cause}
 use Rattle.mg_lex.specs.declared.refusal.Cause.TheVariants as cause
 use Rattle.mg_lex.specs.declared.token.Token.{Token}
-use Rattle.mg_lex.specs.declared.token.TokenKind.{TokenKind}
 use Rattle.mg_lex.specs.declared.token.TokenKind.TheVariants as kind
 use Rattle.mg_lex.specs.Number.{number_value}
 use Rattle.mg_lex.specs.Line.{is_allowed, is_blank, BeginsComment, BeginsNone, AreBlanks, Cuts, IsEnd, IsLongest, IsLongestAtStart, IsReached, IsTaken, IsWithinLimits, token_bytes}
 use Rattle.mg_lex.specs.Cause.{cause_number, HasLargeNumber, HasLongName, IsFaultless, IsFirstCause, IsTokenAt, LacksToken, Stands}
 use Rattle.mg_lex.specs.Step.{IsClean}
 use Rattle.mg_lex.proofs.Classes.{is_token_byte, and_true}
-use Rattle.mg_lex.proofs.Cuts.{is_code, cut_blanks, cut_bytes, cut_ordered, longest_kind, one_length, taken, token_byte, token_no_blank, token_some, token_within}
+use Rattle.mg_lex.proofs.Cuts.{is_code, cut_blanks, cut_bytes, longest_kind, one_length, taken, token_byte, token_no_blank, token_some, token_within}
 
 -- the elements at the front that pass a test, read where they stand in the line
 prefix_at : (p : ℕ → Bool) (line : List ℕ) (place i : ℕ) → place ≤ i → i < place + prefix_len p (drop place line) → p (get_or line i 0) ≡ true

@@ -1,16 +1,13 @@
 -- The tokens that a line has up to a place, as the loop over the scanner's steps keeps them.
-use Rattle.std.proofs.Common.{◌≡◌, ℕ, zero, suc, ◌+◌, ◌-◌, ◌<◌, ◌≤◌, List, [], ◌∷◌, ◌++◌, length, refl, sym, ap, ◌∙◌, subst, arith, ◌⊎◌, inl, inr, ⊎_elim}
-use Rattle.std.specs.Prelude.{Option}
+use Rattle.std.proofs.Common.{◌≡◌, ℕ, ◌+◌, ◌<◌, ◌≤◌, List, [], ◌∷◌, ◌++◌, length, sym, subst, arith, ◌⊎◌, inl, inr, ⊎_elim}
 use Rattle.std.specs.List.{AllByRecursion}
 use Rattle.mg_lex.specs.declared.limits.TheConstants.{LINE_LIMIT}
 use Rattle.mg_lex.specs.declared.refusal.Cause.{Cause}
-use Rattle.mg_lex.specs.declared.refusal.Cause.TheVariants as cause
 use Rattle.mg_lex.specs.declared.scanner.Fault.{Fault}
-use Rattle.mg_lex.specs.declared.scanner.Step.{Step}
 use Rattle.mg_lex.specs.declared.scanner.Step.TheVariants as step
 use Rattle.mg_lex.specs.declared.token.Token.{Token}
-use Rattle.mg_lex.specs.Line.{AreBlanks, AreTokens, BeginsComment, Cuts, IsEnd, IsLongestAtStart, IsWithinLimits}
-use Rattle.mg_lex.specs.Cause.{AreTokensBefore, IsFaultless, IsFirstCause, IsTokenAt, Stands}
+use Rattle.mg_lex.specs.Line.{AreTokens, Cuts, IsWithinLimits}
+use Rattle.mg_lex.specs.Cause.{AreTokensBefore, Stands}
 use Rattle.mg_lex.specs.Step.{ComesNext, IsClean}
 use Rattle.mg_lex.proofs.Cuts.{cut_blanks, cut_ordered, cut_push, token_some, token_within}
 use Rattle.mg_lex.proofs.Firsts.{none_before}

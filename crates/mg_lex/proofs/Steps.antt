@@ -1,15 +1,13 @@
 -- What comes next in a line, in each case of the scanner.
-use Rattle.std.proofs.Common.{◌≡◌, ℕ, ◌+◌, ◌<◌, ◌≤◌, true, false, List, length, get_or, drop, refl, sym, ap, ◌∙◌, subst, arith, ◌⊎◌, inl, inr, ⊎_elim}
-use Rattle.std.specs.Prelude.{Option, Some, None, slice_get}
+use Rattle.std.proofs.Common.{◌≡◌, ℕ, ◌+◌, ◌<◌, ◌≤◌, true, false, List, length, get_or, drop, sym, ap, ◌∙◌, subst, arith, inl, inr, ⊎_elim}
+use Rattle.std.specs.Prelude.{Some, None}
 use Rattle.std.specs.List.{prefix_len}
-use Rattle.std.proofs.lemmas.Option.{slice_get-get_or, get_or_from_slice_get}
+use Rattle.std.proofs.lemmas.Option.{slice_get-get_or}
 use Rattle.mg_lex.specs.declared.limits.TheConstants.{LINE_LIMIT}
 use Rattle.mg_lex.specs.declared.refusal.Cause.TheVariants as cause
-use Rattle.mg_lex.specs.declared.scanner.Fault.{Fault}
 use Rattle.mg_lex.specs.declared.scanner.Step.{Step}
 use Rattle.mg_lex.specs.declared.scanner.Step.TheVariants as step
-use Rattle.mg_lex.specs.declared.token.Token.{Token}
-use Rattle.mg_lex.specs.Line.{is_allowed, is_blank, BeginsComment, BeginsNone, AreBlanks, IsEnd, IsLongestAtStart, IsWithinLimits}
+use Rattle.mg_lex.specs.Line.{is_allowed, is_blank, BeginsComment, BeginsNone, AreBlanks, IsEnd}
 use Rattle.mg_lex.specs.Step.{ComesNext, IsClean}
 use Rattle.mg_lex.proofs.Cuts.{blanks_join}
 use Rattle.mg_lex.proofs.Firsts.{clean_blanks, allowed_at, allowed_within, behind_allowed, first_bad_byte, first_lack, first_long_line_in_comment, first_bad_byte_in_comment, first_long_line_inside, faultless, none_at, none_at_end, none_at_limit}

@@ -1,20 +1,18 @@
 -- Laws about tokens: with which byte each kind begins, which bytes it has, and that a token has one kind.
-use Rattle.std.proofs.Common.{◌≡◌, ℕ, zero, suc, ◌+◌, ◌<◌, ◌≤◌, Bool, true, false, ◌&&◌, cond, List, [], ◌∷◌, ◌++◌, length, get_or, take, refl, sym, ap, ◌∙◌, subst, arith, lit≤, length-take-le}
-use Rattle.std.specs.Prelude.{IsTrue, ◌||◌, ◌==◌, not}
+use Rattle.std.proofs.Common.{◌≡◌, ℕ, zero, suc, ◌+◌, ◌<◌, ◌≤◌, Bool, true, false, cond, List, [], ◌∷◌, length, get_or, take, refl, sym, subst, arith, lit≤, length-take-le}
 use Rattle.std.specs.Char.{is_ascii_alphabetic, is_ascii_digit}
 use Rattle.std.specs.List.{list_all, prefix_len}
 use Rattle.std.proofs.lemmas.Bool.Decides.{nat_tests}
 use Rattle.std.proofs.lemmas.List.Sums.{prefix_len-le-length}
-use Rattle.mg_lex.specs.declared.keyword.Keyword.{Keyword}
 use Rattle.mg_lex.specs.declared.mark.Mark.{Mark}
 use Rattle.mg_lex.specs.declared.mark.Mark.TheVariants as mark
 use Rattle.mg_lex.specs.declared.token.TokenKind.{TokenKind}
 use Rattle.mg_lex.specs.declared.token.TokenKind.TheVariants as kind
-use Rattle.mg_lex.specs.Keyword.{keyword_text, IsKeyword}
+use Rattle.mg_lex.specs.Keyword.{IsKeyword}
 use Rattle.mg_lex.specs.Mark.{mark_text, IsMark, IsLongestMark}
 use Rattle.mg_lex.specs.Number.{IsNumber}
-use Rattle.mg_lex.specs.Token.{is_word_byte, IsWord, IsRelatorSign, IsName, IsToken}
-use Rattle.mg_lex.specs.Line.{is_allowed, is_blank, IsLongest, BeginsNone}
+use Rattle.mg_lex.specs.Token.{is_word_byte, IsWord, IsRelatorSign, IsToken}
+use Rattle.mg_lex.specs.Line.{IsLongest, BeginsNone}
 use Rattle.mg_lex.proofs.Keywords.{KeywordForm, keyword_form}
 use Rattle.mg_lex.proofs.Classes.{is_token_byte, is_sign, and_true, true_and}
 

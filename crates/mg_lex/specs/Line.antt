@@ -1,7 +1,7 @@
 -- How a line is cut into tokens. Places count from 0.
 use Rattle.std.specs.Prelude.{◌≡◌, ℕ, ◌+◌, ◌<◌, ◌≤◌, Bool, ◌||◌, ◌==◌, List, [], ◌∷◌, length, take, drop, slice_index, slice_get, Some, IsTrue, ◌⊎◌}
 use Rattle.std.specs.Int.{is_in_range}
-use Rattle.std.specs.List.{AllByRecursion, slice_range}
+use Rattle.std.specs.List.{AllByRecursion}
 use Rattle.mg_lex.specs.declared.limits.TheConstants.{LINE_LIMIT, NAME_LIMIT, NUMBER_LIMIT}
 use Rattle.mg_lex.specs.declared.token.Token.{Token}
 use Rattle.mg_lex.specs.declared.token.TokenKind.{TokenKind}

@@ -1,4 +1,3 @@
-use Rattle.std.proofs.Common.{refl, sym, ◌∙◌}
 use Rattle.mg_lex.proofs.Words.{two_bytes_longest, one_byte_longest, no_mark}
 use Rattle.mg_lex.proofs.front.mark_length.Goals as goal
 

@@ -1,7 +1,7 @@
 use Rattle.std.proofs.Common.{ℕ, List, Bor, subst, sym}
 use Rattle.mg_lex.specs.Step.{IsClean}
 use Rattle.mg_lex.proofs.Firsts.{clean_blanks}
-use Rattle.mg_lex.proofs.Steps.{next_behind_blanks, long_line_next}
+use Rattle.mg_lex.proofs.Steps.{long_line_next}
 use Rattle.mg_lex.proofs.scanner.Scanner.next.Goals as goal
 
 pub returns-then-self-gt-LINE_LIMIT-clause-next : goal.returns-then-self-gt-LINE_LIMIT-clause-next

@@ -1,5 +1,5 @@
-use Rattle.std.proofs.Common.{◌≡◌, ℕ, List, true, false, get_or, drop, subst, sym, ◌∙◌}
-use Rattle.mg_lex.specs.Line.{is_allowed, BeginsNone}
+use Rattle.std.proofs.Common.{subst, sym, ◌∙◌}
+use Rattle.mg_lex.specs.Line.{BeginsNone}
 use Rattle.mg_lex.proofs.Steps.{lack_here, bad_byte_here}
 use Rattle.mg_lex.proofs.scanner.Scanner.token.Goals as goal
 
