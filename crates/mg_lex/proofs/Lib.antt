@@ -1,8 +1,8 @@
-mod Classes
+pub mod Classes
 mod Keywords
-mod Numbers
-mod Words
-mod Cuts
-mod Firsts
+pub mod Numbers
+pub mod Words
+pub mod Cuts
+pub mod Firsts
 mod Steps
 mod Lines
