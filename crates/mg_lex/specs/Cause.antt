@@ -66,7 +66,10 @@ IsFaultless line = (place : ℕ) (c : Cause) → Stands line place c → ⊥
 -- the cause stands at the place, no cause stands before it, and none with a less number stands there
 pub record IsFirstCause (line : List ℕ) (place : ℕ) (c : Cause) : Type 0 where
   pub stands : Stands line place c
-  pub first : (q : ℕ) (d : Cause) → Stands line q d → (place < q) ⊎ ((place ≡ q) × (cause_number c ≤ cause_number d))
+  pub first :
+      (q : ℕ) (d : Cause) →
+      Stands line q d →
+      (place < q) ⊎ ((place ≡ q) × (cause_number c ≤ cause_number d))
 
 -- the tokens that begin before the place: they cut the line up to it, or up to a comment, and pass no limit
 pub record AreTokensBefore (line : List ℕ) (place : ℕ) (ts : List Token) : Type 0 where

@@ -45,7 +45,8 @@ IsLongestAtStart line t = IsLongest (drop t.start line) t.kind t.length
 -- blanks before, between and after them
 abbrev pub Cuts : List ℕ → ℕ → List Token → ℕ → Type 0
 Cuts line from [] to = AreBlanks line from to
-Cuts line from (t ∷ ts) to = AreBlanks line from t.start × IsLongestAtStart line t × Cuts line (t.start + t.length) ts to
+Cuts line from (t ∷ ts) to =
+    AreBlanks line from t.start × IsLongestAtStart line t × Cuts line (t.start + t.length) ts to
 
 -- a token is looked for at this place: what stands before it is whole tokens and blanks
 abbrev pub IsReached : List ℕ → ℕ → Type 0

@@ -16,7 +16,9 @@ pub record IsClean (line : List ℕ) (place : ℕ) : Type 0 where
 -- what comes next in the line from one place on, and up to which place the line is read then
 abbrev pub ComesNext : List ℕ → ℕ → Step → ℕ → Type 0
 ComesNext line from (step.Token t) to =
-    AreBlanks line from t.start × IsLongestAtStart line t × IsWithinLimits line t × (to ≡ t.start + t.length)
+    AreBlanks line from t.start × IsLongestAtStart line t × IsWithinLimits line t ×
+    (to ≡ t.start + t.length)
 ComesNext line from step.End to = AreBlanks line from to × IsEnd line to × IsFaultless line
 ComesNext line from (step.Refused f) to =
-    AreBlanks line from to × IsFirstCause line f.place f.cause × IsTokenAt line f.place f.token × ((f.place ≤ to) ⊎ BeginsComment line to)
+    AreBlanks line from to × IsFirstCause line f.place f.cause × IsTokenAt line f.place f.token ×
+    ((f.place ≤ to) ⊎ BeginsComment line to)

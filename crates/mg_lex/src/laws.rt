@@ -15,11 +15,13 @@ pub fn one_kind()
 
 /// Up to a place a line is cut in one way, and a whole line has one list of tokens.
 pub fn one_reading()
-    ensures cut { (line : List ℕ) (ts us : List Token) (place : ℕ) → Cuts line 0 ts place → Cuts line 0 us place → ts ≡ us }
+    ensures cut { (line : List ℕ) (ts us : List Token) (place : ℕ) →
+        Cuts line 0 ts place → Cuts line 0 us place → ts ≡ us }
     ensures whole { (line : List ℕ) (ts us : List Token) → AreTokens line ts → AreTokens line us → ts ≡ us }
 {}
 
 /// A line has one first cause, at one place.
 pub fn one_refusal()
-    ensures { (line : List ℕ) (p q : ℕ) (c d : Cause) → IsFirstCause line p c → IsFirstCause line q d → (p ≡ q) × (c ≡ d) }
+    ensures { (line : List ℕ) (p q : ℕ) (c d : Cause) →
+        IsFirstCause line p c → IsFirstCause line q d → (p ≡ q) × (c ≡ d) }
 {}

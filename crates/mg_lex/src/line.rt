@@ -59,7 +59,8 @@ pub fn lex(alloc: Global, line: &[u8], number: u32) -> Result<Lexed, NoMemory>
 
     // A fault is the first one of the line.
     ensures refused { IfOk result (λ l. IfSome l.fault (λ f. IsRefusal line.now number f.refused)) }
-    ensures before { IfOk result (λ l. IfSome l.fault (λ f. AreTokensBefore line.now (place_of f.refused) l.tokens)) }
+    ensures before { IfOk result (λ l. IfSome l.fault (λ f.
+        AreTokensBefore line.now (place_of f.refused) l.tokens)) }
     ensures token { IfOk result (λ l. IfSome l.fault (λ f. IsTokenAt line.now (place_of f.refused) f.token)) }
 {
     let mut scanner = Scanner::new(line);

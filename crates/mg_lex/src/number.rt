@@ -8,7 +8,8 @@ use crate::limits::NUMBER_LIMIT;
 /// The number that the digits write; None exactly where it passes `NUMBER_LIMIT`.
 pub fn value_of(digits: &[u8]) -> Option<u64>
     requires { IsNumber digits.now }
-    ensures some { IfSome result (λ value. (value ≡ number_value digits.now) × (value ≤ NUMBER_LIMIT)) }
+    ensures value { IfSome result (λ value. value ≡ number_value digits.now) }
+    ensures within { IfSome result (λ value. value ≤ NUMBER_LIMIT) }
     ensures none { IfNone result (NUMBER_LIMIT < number_value digits.now) }
 {
     let mut value = 0;

@@ -78,7 +78,8 @@ impl<'a> Scanner<'a> {
     fn skip_blanks(&mut self)
         ensures line { self.new.line ≡ self.old.line }
         ensures blanks { AreBlanks self.old.line.now self.old.place self.new.place }
-        ensures all { self.new.place < length self.old.line.now → is_blank (slice_index self.old.line.now self.new.place) ≡ false }
+        ensures all { self.new.place < length self.old.line.now →
+            is_blank (slice_index self.old.line.now self.new.place) ≡ false }
     {
         self.place += blanks_length(self.rest());
     }
