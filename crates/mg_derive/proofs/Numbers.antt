@@ -95,6 +95,19 @@ digit_within ask (Relator place inverse) s = record { least = let h = relator_lo
 digit_within ask (Member place inverse) s = record { least = let h = member_low ask place inverse s in omega arith; most = let h = member_high ask place inverse s in omega arith }
 digit_within ask Cut s = record { least = omega arith; most = omega arith }
 
+-- the cut has the greatest digit
+abbrev pub IsNoCut : Symbol → Type 0
+IsNoCut (Letter x) = Unit {0}
+IsNoCut (Relator place inverse) = Unit {0}
+IsNoCut (Member place inverse) = Unit {0}
+IsNoCut Cut = ⊥
+
+pub below_cut : (ask : Inquiry) (symbol : Symbol) → IsSymbolOf ask symbol → IsNoCut symbol → digit_of ask symbol < symbol_count ask
+below_cut ask (Letter x) s n = let h = letter_high ask x s in omega arith
+below_cut ask (Relator place inverse) s n = let h = relator_high ask place inverse s in omega arith
+below_cut ask (Member place inverse) s n = member_high ask place inverse s
+below_cut ask Cut s n = absurd n
+
 -- two symbols of one digit are one symbol
 pub digit_one : (ask : Inquiry) (s t : Symbol) → IsSymbolOf ask s → IsSymbolOf ask t → digit_of ask s ≡ digit_of ask t → s ≡ t
 digit_one ask (Letter x) (Letter y) h k e = ap Letter (letter_one ask x y h k e)
