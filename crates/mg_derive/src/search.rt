@@ -146,7 +146,13 @@ impl Enumeration {
         ensures refused { result ≡ false → AcceptedAt self.old.ask self.new.cursor → ⊥ }
         ensures none { self.new.is_open ≡ true → NoneAmong (AcceptedAt self.new.ask) 0 self.new.cursor }
     {
-        let found = is_accepted(&self.ask, self.base, &self.digits, &mut self.text, &mut self.buffers);
+        let found = is_accepted(
+            &self.ask,
+            self.base,
+            &self.digits,
+            &mut self.text,
+            &mut self.buffers,
+        );
         self.cursor += 1;
         if found {
             self.is_open = false;
@@ -159,7 +165,13 @@ impl Enumeration {
 
 // Whether the text with these digits is accepted. The symbols are looked at only where the cuts among the
 // digits allow it.
-fn is_accepted(ask: &Ask, base: u32, digits: &Digits, text: &mut Derivation, buffers: &mut Buffers) -> bool
+fn is_accepted(
+    ask: &Ask,
+    base: u32,
+    digits: &Digits,
+    text: &mut Derivation,
+    buffers: &mut Buffers,
+) -> bool
     requires base { base ≡ count_of ask.now }
     requires digits { IsText base digits.now }
     requires most { value base digits.now ≤ 2 ^ 62 }

@@ -10,4 +10,4 @@ returns-then-last-base c = λ _.
 pub returns : goal.returns
 returns c = λ f.
     refused_by_cuts c.args.ask.now c.args.base c.args.digits.now c.len.result c.requires.base c.requires.digits (c.len.ensures ∙ ap length c.goals.ensures.value)
-      (ap (λ n. n == c.len.result) (sym c.cut_count.ensures) ∙ f)
+    (ap (λ n. n == c.len.result) (sym c.cut_count.ensures) ∙ f)

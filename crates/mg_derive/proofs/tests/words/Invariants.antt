@@ -8,5 +8,5 @@ abbrev pub invariant-loop-list : goal.invariant-loop-list
 invariant-loop-list l = record {
   relators : AllByRecursion (IsRelator l.generators) l.words;
   members : AllByRecursion (IsReducedOver l.generators) l.words;
-  count : length l.words ≤ l.list-index
+  count : length l.words ≤ l.list-index;
 }
