@@ -1,10 +1,11 @@
 -- How accepted texts end, and the search through all texts.
-use Rattle.std.proofs.Common.{◌≡◌, ◌≢◌, ℕ, zero, suc, ◌+◌, ◌-◌, ◌*◌, ◌^◌, ◌<◌, ◌≤◌, Bool, true, false, ℤ, List, [], ◌∷◌, ◌++◌, length, map, get_or, refl, sym, ap, subst, ◌∙◌, ◌⊎◌, inl, inr, append_assoc, arith, Some, None}
+use Rattle.std.proofs.Common.{◌≡◌, ◌≢◌, ℕ, zero, suc, ◌+◌, ◌-◌, ◌*◌, ◌^◌, ◌<◌, ◌≤◌, Bool, true, false, ℤ, List, [], ◌∷◌, ◌++◌, length, map, get_or, refl, sym, ap, subst, ◌∙◌, ◌⊎◌, inl, inr, append_assoc, arith, Some, zero-add, eq-eqb}
 use Rattle.std.specs.List.{AllByRecursion, flat_map}
 use Rattle.std.proofs.lemmas.List.{length-append, length-map, map-append, get_or_at, append-nil, nil_from_length}
-use Rattle.std.specs.Prelude.{◌↔◌, IsTrue, slice_get}
+use Rattle.std.specs.Prelude.{◌↔◌, ◌==◌, if◌then◌else◌, IsTrue, slice_get}
 use Rattle.std.proofs.lemmas.Bool.{cases_lt, false≢true}
-use Rattle.std.proofs.lemmas.Option.{slice_get_within, slice_get-get_or, get_or_from_slice_get}
+use Rattle.std.proofs.lemmas.Bool.Decides.{nat_tests}
+use Rattle.std.proofs.lemmas.Option.{slice_get_within, get_or_from_slice_get}
 use Rattle.mg_numbers.specs.Texts.{IsText, value}
 use Rattle.mg_numbers.specs.Plain.{NoneAmong, FindsFirst}
 use Rattle.mg_numbers.proofs.TextsValues.{text_unique, value_in_base_one, length_within, room_for_a_digit}
@@ -17,7 +18,9 @@ use Rattle.mg_derive.specs.Symbols.{IsSymbolOf, digit_of, symbol_count, word_of,
 use Rattle.mg_derive.specs.Acceptance.{IsInOrder, Vanishes, Write, IsAccepted, IsNumbered, AcceptedAt}
 use Rattle.mg_derive.specs.Room.{Room, HasRoom}
 use Rattle.mg_derive.specs.Search.{HasRoomForAll}
-use Rattle.mg_derive.proofs.Numbers.{digits_text, numbered_one}
+use Rattle.mg_derive.specs.Reading.{cuts_among}
+use Rattle.mg_derive.proofs.Numbers.{below_cut, digits_text, numbered_one}
+use Rattle.mg_derive.proofs.Parts.{InOrder, in_order_from, all_left, all_right}
 
 abbrev closed : List Symbol → List Symbol
 closed part = part ++ Cut ∷ []
@@ -57,7 +60,7 @@ accepted_end ask digits d a =
     let k = symbol_count ask in
     let e : value k (map (digit_of ask) a.text) ≡ value k digits = omega (arith, a.numbered.number) in
     digits_end ask a.text digits (text_unique k (map (digit_of ask) a.text) digits (digits_text ask a.text a.numbered.symbols) d e)
-      (ends_of ask a.text a.accepted.parts a.accepted.cut a.accepted.write)
+    (ends_of ask a.text a.accepted.parts a.accepted.cut a.accepted.write)
 
 -- ---- the text of a number
 
@@ -138,17 +141,22 @@ cuts_accepted ask a k =
       text = text;
       numbered = record { symbols = s; number = ap (λ n. n + 1) v };
       accepted = record {
-        symbols = s; parts = bare ask.goals; cut = cuts_closed ask.goals; in_order = bare_in_order ask.goals;
-        vanish = bare_vanish ask ask.goals; write = bare_write ask ask.goals (omega arith) a.words.goal_words
-      }
+        symbols = s;
+        parts = bare ask.goals;
+        cut = cuts_closed ask.goals;
+        in_order = bare_in_order ask.goals;
+        vanish = bare_vanish ask ask.goals;
+        write = bare_write ask ask.goals (omega arith) a.words.goal_words;
+      };
     }
 
 -- where none up to a number is accepted, that number is at most that of the goals
 pub none_in_base_one : (ask : Inquiry) (n : ℕ) → IsAsked ask → symbol_count ask ≡ 1 → NoneAmong (AcceptedAt ask) 0 n → n ≤ 4096
 none_in_base_one ask n a k h =
     elim (cases_lt (length ask.goals) n) [
-    inl above ↦ absurd (h (length ask.goals + 1) (omega arith) (omega arith) (cuts_accepted ask a k)) |
-    inr below ↦ omega (arith, a.words.goal_count) ]
+      | inl above ↦ absurd (h (length ask.goals + 1) (omega arith) (omega arith) (cuts_accepted ask a k))
+      | inr below ↦ omega (arith, a.words.goal_count)
+    ]
 
 -- ---- the search
 
@@ -156,15 +164,17 @@ none_in_base_one ask n a k h =
 pub none_more : (ask : Inquiry) (a n : ℕ) → NoneAmong (AcceptedAt ask) a n → (AcceptedAt ask (n + 1) → ⊥) → NoneAmong (AcceptedAt ask) a (n + 1)
 none_more ask a n h m k low high p =
     elim (cases_lt n k) [
-    inl above ↦ let e : k ≡ n + 1 = omega arith in m (subst (λ (j : ℕ). AcceptedAt ask j) e p) |
-    inr below ↦ h k low below p ]
+      | inl above ↦ let e : k ≡ n + 1 = omega arith in m (subst (λ (j : ℕ). AcceptedAt ask j) e p)
+      | inr below ↦ h k low below p
+    ]
 
 pub room_for_text : (ask : Inquiry) (base : ℕ) (digits : List ℕ) (text : List Symbol) (room : Room) → base ≡ symbol_count ask → IsText base digits → value base digits ≤ 2 ^ 62 → HasRoomForAll ask room
     → AllByRecursion (IsSymbolOf ask) text → map (digit_of ask) text ≡ digits → HasRoom ask text room
 room_for_text ask base digits text room b d v r s e =
     elim (cases_lt 1 (symbol_count ask)) [
-    inl two ↦ r text s (let n = length_within base 62 digits (omega arith) (omega arith) d v in omega (arith, ap length e, length-map text (digit_of ask))) |
-    inr one ↦ room_for_cuts ask text room (omega arith) s ]
+      | inl two ↦ r text s (let n = length_within base 62 digits (omega arith) (omega arith) d v in omega (arith, ap length e, length-map text (digit_of ask)))
+      | inr one ↦ room_for_cuts ask text room (omega arith) s
+    ]
 
 pub room_kept : (ask : Inquiry) (old new : Room) → HasRoomForAll ask old → old.letters ≤ new.letters → old.written ≤ new.written → HasRoomForAll ask new
 room_kept ask old new r l w text s n = let h = r text s n in record { letters = omega (arith, h.letters); written = omega (arith, h.written) }
@@ -174,7 +184,7 @@ pub room_for_next : (ask : Inquiry) (base cursor : ℕ) (digits : List ℕ) → 
     → NoneAmong (AcceptedAt ask) 0 (cursor + 1) → length digits < 4096
 room_for_next ask base cursor digits a b d v m h =
     room_for_a_digit base digits (omega arith) d (omega arith)
-      (λ one. let n = none_in_base_one ask (cursor + 1) a (sym b ∙ one) h in omega arith)
+    (λ one. let n = none_in_base_one ask (cursor + 1) a (sym b ∙ one) h in omega arith)
 
 -- texts that can't be accepted by their ends
 pub refused_by_last : (ask : Inquiry) (base last : ℕ) (digits : List ℕ) → base ≡ symbol_count ask → IsText base digits → slice_get digits (length digits - 1) ≡ Some last → last ≢ base
@@ -183,16 +193,9 @@ refused_by_last ask base last digits b d s n a =
     let k = symbol_count ask in
     let h = accepted_end ask digits (subst (λ (m : ℕ). IsText m digits) b d) (subst (λ (m : ℕ). AcceptedAt ask (value m digits + 1)) b a) in
     elim h [
-    inl none ↦ absurd (omega (arith, slice_get_within digits (length digits - 1) last s, ap length none.0)) |
-    inr some ↦ n (sym (get_or_from_slice_get digits (length digits - 1) last 0 s) ∙ (some.1 ∙ sym b)) ]
-
-pub refused_as_empty : (ask : Inquiry) (base : ℕ) (digits : List ℕ) → base ≡ symbol_count ask → IsText base digits → slice_get digits (length digits - 1) ≡ None → length ask.goals ≢ 0
-    → AcceptedAt ask (value base digits + 1) → ⊥
-refused_as_empty ask base digits b d s n a =
-    let h = accepted_end ask digits (subst (λ (m : ℕ). IsText m digits) b d) (subst (λ (m : ℕ). AcceptedAt ask (value m digits + 1)) b a) in
-    elim h [
-    inl none ↦ n (ap length none.1) |
-    inr some ↦ let f : Some (get_or digits (length digits - 1) 0) ≡ None = sym (slice_get-get_or digits (length digits - 1) 0 (omega (arith, some.0))) ∙ s in cc f ]
+      | inl none ↦ absurd (omega (arith, slice_get_within digits (length digits - 1) last s, ap length none.0))
+      | inr some ↦ n (sym (get_or_from_slice_get digits (length digits - 1) last 0 s) ∙ (some.1 ∙ sym b))
+    ]
 
 pub refused_text : (ask : Inquiry) (base : ℕ) (digits : List ℕ) (text : List Symbol) (r : Bool) → base ≡ symbol_count ask → AllByRecursion (IsSymbolOf ask) text → map (digit_of ask) text ≡ digits
     → (IsTrue r ↔ IsAccepted ask text) → r ≡ false → AcceptedAt ask (value base digits + 1) → ⊥
@@ -209,6 +212,61 @@ finds_first ask new start units cursor next spent text e f c u h n a s k =
     let i : next ≡ start + s = omega arith in
     let j : cursor ≡ start + s - 1 = omega arith in
     record {
-      some = omega arith; within = omega arith; holds = subst (λ (m : ℕ). AcceptedAt ask m) i there;
-      none_before = subst (λ (m : ℕ). NoneAmong (AcceptedAt ask) start m) j h
+      some = omega arith;
+      within = omega arith;
+      holds = subst (λ (m : ℕ). AcceptedAt ask m) i there;
+      none_before = subst (λ (m : ℕ). NoneAmong (AcceptedAt ask) start m) j h;
     }
+
+-- ---- the cuts of an accepted text
+
+cuts-append : (cut : ℕ) (xs ys : List ℕ) → cuts_among cut (xs ++ ys) ≡ cuts_among cut xs + cuts_among cut ys
+cuts-append cut [] ys = omega arith
+cuts-append cut (x ∷ xs) ys = omega (arith, cuts-append cut xs ys)
+
+eqb-false : (digit cut : ℕ) → digit < cut → (digit == cut) ≡ false
+eqb-false digit cut h = grind (arith, nat_tests)
+
+other_digit : (digit cut : ℕ) (digits : List ℕ) → digit < cut → cuts_among cut (digit ∷ digits) ≡ cuts_among cut digits
+other_digit digit cut digits h = ap (λ b. (if b then 1 else 0) + cuts_among cut digits) (eqb-false digit cut h) ∙ zero-add (cuts_among cut digits)
+
+no_cuts : (ask : Inquiry) (members : Bool) (part : List Symbol) → InOrder members part → AllByRecursion (IsSymbolOf ask) part → cuts_among (symbol_count ask) (map (digit_of ask) part) ≡ 0
+no_cuts ask members [] o s = refl
+no_cuts ask members (Letter x ∷ part) o s = other_digit _ _ _ (below_cut ask (Letter x) s.0 tt) ∙ no_cuts ask false part o.1 s.1
+no_cuts ask members (Relator place inverse ∷ part) o s = other_digit _ _ _ (below_cut ask (Relator place inverse) s.0 tt) ∙ no_cuts ask false part o.1 s.1
+no_cuts ask members (Member place inverse ∷ part) o s = other_digit _ _ _ (below_cut ask (Member place inverse) s.0 tt) ∙ no_cuts ask true part o s.1
+no_cuts ask members (Cut ∷ part) o s = absurd o
+
+cuts_of_parts : (ask : Inquiry) (parts : List (List Symbol)) → AllByRecursion IsInOrder parts → AllByRecursion (IsSymbolOf ask) (flat_map closed parts)
+    → cuts_among (symbol_count ask) (map (digit_of ask) (flat_map closed parts)) ≡ length parts
+cuts_of_parts ask [] o s = refl
+cuts_of_parts ask (part ∷ parts) o s =
+    let cut = symbol_count ask in
+    let rest = flat_map closed parts in
+    let e = append_assoc part (Cut ∷ []) rest in
+    let s' : AllByRecursion (IsSymbolOf ask) (part ++ Cut ∷ rest) = subst (λ (t : List Symbol). AllByRecursion (IsSymbolOf ask) t) e s in
+    let f : cuts_among cut (map (digit_of ask) (closed part ++ rest)) ≡ cuts_among cut (map (digit_of ask) part) + cuts_among cut (cut ∷ map (digit_of ask) rest) =
+    ap (λ t. cuts_among cut (map (digit_of ask) t)) e ∙ (ap (λ t. cuts_among cut t) (map-append (digit_of ask) part (Cut ∷ rest)) ∙ cuts-append cut (map (digit_of ask) part) (cut ∷ map (digit_of ask) rest)) in
+    let g : cuts_among cut (cut ∷ map (digit_of ask) rest) ≡ 1 + cuts_among cut (map (digit_of ask) rest) = ap (λ b. (if b then 1 else 0) + cuts_among cut (map (digit_of ask) rest)) (eq-eqb cut cut refl) in
+    omega (arith, f, g, no_cuts ask false part (in_order_from part o.0) (all_left (IsSymbolOf ask) part (Cut ∷ rest) s'), cuts_of_parts ask parts o.1 (all_right (IsSymbolOf ask) part (Cut ∷ rest) s').1)
+
+as_many : (ask : Inquiry) (parts : List (List Symbol)) (goals : List (List ℤ)) → Write ask parts goals → length parts ≡ length goals
+as_many ask [] [] w = refl
+as_many ask [] (goal ∷ goals) w = absurd w
+as_many ask (part ∷ parts) [] w = absurd w
+as_many ask (part ∷ parts) (goal ∷ goals) w = ap suc (as_many ask parts goals w.1)
+
+cuts_of_accepted : (ask : Inquiry) (digits : List ℕ) → IsText (symbol_count ask) digits → AcceptedAt ask (value (symbol_count ask) digits + 1) → cuts_among (symbol_count ask) digits ≡ length ask.goals
+cuts_of_accepted ask digits d a =
+    let k = symbol_count ask in
+    let e : value k (map (digit_of ask) a.text) ≡ value k digits = omega (arith, a.numbered.number) in
+    let f : digits ≡ map (digit_of ask) a.text = text_unique k digits (map (digit_of ask) a.text) d (digits_text ask a.text a.numbered.symbols) (sym e) in
+    let s : AllByRecursion (IsSymbolOf ask) (flat_map closed a.accepted.parts) = subst (λ (t : List Symbol). AllByRecursion (IsSymbolOf ask) t) a.accepted.cut a.accepted.symbols in
+    ap (λ t. cuts_among k t) f ∙ (ap (λ t. cuts_among k (map (digit_of ask) t)) a.accepted.cut
+    ∙ (cuts_of_parts ask a.accepted.parts a.accepted.in_order s ∙ as_many ask a.accepted.parts ask.goals a.accepted.write))
+
+pub refused_by_cuts : (ask : Inquiry) (base : ℕ) (digits : List ℕ) (goals : ℕ) → base ≡ symbol_count ask → IsText base digits → goals ≡ length ask.goals → (cuts_among base digits == goals) ≡ false
+    → AcceptedAt ask (value base digits + 1) → ⊥
+refused_by_cuts ask base digits goals b d g f a =
+    let e = cuts_of_accepted ask digits (subst (λ (m : ℕ). IsText m digits) b d) (subst (λ (m : ℕ). AcceptedAt ask (value m digits + 1)) b a) in
+    false≢true (sym f ∙ eq-eqb (cuts_among base digits) goals (ap (λ m. cuts_among m digits) b ∙ (e ∙ sym g)))

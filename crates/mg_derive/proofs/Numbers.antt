@@ -73,7 +73,6 @@ letter_one ask (negsuc a) (negsuc b) s t e = let k : a ≡ b = omega arith in ap
 letter_one ask (pos a) (negsuc b) s t e = absurd (omega (arith, s.least))
 letter_one ask (negsuc a) (pos b) s t e = absurd (omega (arith, t.least))
 
-
 abbrev members_from : Inquiry → ℕ
 members_from ask = 2 * ask.group.generators + 2 * length ask.group.relators
 
@@ -94,6 +93,19 @@ digit_within ask (Letter x) s = record { least = letter_low ask x s; most = let 
 digit_within ask (Relator place inverse) s = record { least = let h = relator_low ask place inverse s in omega arith; most = let h = relator_high ask place inverse s in omega arith }
 digit_within ask (Member place inverse) s = record { least = let h = member_low ask place inverse s in omega arith; most = let h = member_high ask place inverse s in omega arith }
 digit_within ask Cut s = record { least = omega arith; most = omega arith }
+
+-- the cut has the greatest digit
+abbrev pub IsNoCut : Symbol → Type 0
+IsNoCut (Letter x) = Unit {0}
+IsNoCut (Relator place inverse) = Unit {0}
+IsNoCut (Member place inverse) = Unit {0}
+IsNoCut Cut = ⊥
+
+pub below_cut : (ask : Inquiry) (symbol : Symbol) → IsSymbolOf ask symbol → IsNoCut symbol → digit_of ask symbol < symbol_count ask
+below_cut ask (Letter x) s n = let h = letter_high ask x s in omega arith
+below_cut ask (Relator place inverse) s n = let h = relator_high ask place inverse s in omega arith
+below_cut ask (Member place inverse) s n = member_high ask place inverse s
+below_cut ask Cut s n = absurd n
 
 -- two symbols of one digit are one symbol
 pub digit_one : (ask : Inquiry) (s t : Symbol) → IsSymbolOf ask s → IsSymbolOf ask t → digit_of ask s ≡ digit_of ask t → s ≡ t
@@ -143,18 +155,21 @@ member_at ask place digit inverse l m e a h =
 found_of : (ask : Inquiry) (digit : ℕ) → 1 ≤ digit → digit ≤ symbol_count ask → Found ask digit
 found_of ask digit l m =
     elim (cases_lt (2 * ask.group.generators) digit) [
-    inr low ↦ let s = sign_of digit l in
-      let f = letter_at ask s.place digit s.inverse s.least s.most s.is_digit low in
-      record { symbol = Letter (number_of s.place s.inverse); is_symbol = f.0; is_digit = f.1 } |
-    inl above ↦ elim (cases_lt (members_from ask) digit) [
-      inr low ↦ let s = sign_of (digit - 2 * ask.group.generators) (omega arith) in
-        let f = relator_at ask s.place digit s.inverse s.least s.most s.is_digit above (omega arith) in
-        record { symbol = Relator s.place s.inverse; is_symbol = f.0; is_digit = f.1 } |
-      inl over ↦ elim (cases_lt digit (symbol_count ask)) [
-        inl low ↦ let s = sign_of (digit - members_from ask) (omega arith) in
-          let f = member_at ask s.place digit s.inverse s.least s.most s.is_digit over (omega arith) in
-          record { symbol = Member s.place s.inverse; is_symbol = f.0; is_digit = f.1 } |
-        inr last ↦ record { symbol = Cut; is_symbol = tt; is_digit = omega arith } ] ] ]
+      | inr low ↦ let s = sign_of digit l in
+          let f = letter_at ask s.place digit s.inverse s.least s.most s.is_digit low in
+          record { symbol = Letter (number_of s.place s.inverse); is_symbol = f.0; is_digit = f.1 }
+      | inl above ↦ elim (cases_lt (members_from ask) digit) [
+        | inr low ↦ let s = sign_of (digit - 2 * ask.group.generators) (omega arith) in
+            let f = relator_at ask s.place digit s.inverse s.least s.most s.is_digit above (omega arith) in
+            record { symbol = Relator s.place s.inverse; is_symbol = f.0; is_digit = f.1 }
+        | inl over ↦ elim (cases_lt digit (symbol_count ask)) [
+          | inl low ↦ let s = sign_of (digit - members_from ask) (omega arith) in
+              let f = member_at ask s.place digit s.inverse s.least s.most s.is_digit over (omega arith) in
+              record { symbol = Member s.place s.inverse; is_symbol = f.0; is_digit = f.1 }
+          | inr last ↦ record { symbol = Cut; is_symbol = tt; is_digit = omega arith }
+        ]
+      ]
+    ]
 
 -- ---- texts
 
@@ -176,7 +191,7 @@ numbered_one ask s t n a b =
     let k = symbol_count ask in
     let e : value k (map (digit_of ask) s) ≡ value k (map (digit_of ask) t) = omega (arith, a.number, b.number) in
     digits_one ask s t a.symbols b.symbols
-      (text_unique k (map (digit_of ask) s) (map (digit_of ask) t) (digits_text ask s a.symbols) (digits_text ask t b.symbols) e)
+    (text_unique k (map (digit_of ask) s) (map (digit_of ask) t) (digits_text ask s a.symbols) (digits_text ask t b.symbols) e)
 
 record Spelled (ask : Inquiry) (digits : List ℕ) : Type 0 where
   text : List Symbol

@@ -149,11 +149,14 @@ longer : (ask : Inquiry) (symbol : Symbol) (text : List Symbol) (goals : List (L
     → Part ask text goals next letters' (free_form (written ++ word_of ask symbol)) → Part ask (symbol ∷ text) goals members letters written
 longer ask symbol text goals members next letters letters' written s o l p =
     record {
-      part = symbol ∷ p.part; rest = p.rest; split = ap (λ t. symbol ∷ t) p.split; symbols = (s, p.symbols);
+      part = symbol ∷ p.part;
+      rest = p.rest;
+      split = ap (λ t. symbol ∷ t) p.split;
+      symbols = (s, p.symbols);
       order = o p.part p.order;
       vanish = sym (l (letters_alone p.part)) ∙ p.vanish;
       goal = p.goal ∙ ap (λ t. t ∷ drop 1 goals) (step_form written (word_of ask symbol) (written_out ask p.part));
-      others = p.others
+      others = p.others;
     }
 
 -- the first part, closed by its cut, and the other parts
@@ -168,9 +171,12 @@ parted_cons ask goal goals text a p =
       cut = p.split ∙ (ap (λ t. p.part ++ Cut ∷ t) p.others.cut ∙ sym (append_assoc p.part (Cut ∷ []) (flat_map closed p.others.parts)));
       in_order = (in_order_to p.part p.order, p.others.in_order);
       vanish = (freely_from_form m (letters_alone p.part) [] (letters_over ask p.part p.symbols) tt p.vanish, p.others.vanish);
-      write = (freely_from_form m (written_out ask p.part) goal over
-        (subst (λ (t : List ℤ). IsOver m t) (sym e) (IsOver-free_form m (written_out ask p.part) over))
-        (sym (ap free_form e ∙ free_form-free_form (written_out ask p.part))), p.others.write)
+      write = (
+        freely_from_form m (written_out ask p.part) goal over
+            (subst (λ (t : List ℤ). IsOver m t) (sym e) (IsOver-free_form m (written_out ask p.part) over))
+            (sym (ap free_form e ∙ free_form-free_form (written_out ask p.part))),
+        p.others.write,
+      );
     }
 
 parted_start : (ask : Inquiry) (text : List Symbol) (goals : List (List ℤ)) → IsAsked ask
@@ -184,21 +190,25 @@ part_of : (ask : Inquiry) (text : List Symbol) (goals : List (List ℤ)) (member
 part_of ask [] goals members letters written a g l w h = absurd (omega (arith, ap length h))
 part_of ask (Letter x ∷ text) goals members letters written a g l w h =
     longer ask (Letter x) text goals members false letters (free_form (letters ++ x ∷ [])) written h.1 (λ part o. (h.2.0, o)) (λ b. step_form letters (x ∷ []) b)
-      (part_of ask text goals false (free_form (letters ++ x ∷ [])) (free_form (written ++ x ∷ [])) a g (free_form-free_form (letters ++ x ∷ [])) (free_form-free_form (written ++ x ∷ [])) h.2.1)
+    (part_of ask text goals false (free_form (letters ++ x ∷ [])) (free_form (written ++ x ∷ [])) a g (free_form-free_form (letters ++ x ∷ [])) (free_form-free_form (written ++ x ∷ [])) h.2.1)
 part_of ask (Relator place inverse ∷ text) goals members letters written a g l w h =
     let u = word_of ask (Relator place inverse) in
     longer ask (Relator place inverse) text goals members false letters letters written h.1 (λ part o. (h.2.0, o)) (λ b. refl)
-      (part_of ask text goals false letters (free_form (written ++ u)) a g l (free_form-free_form (written ++ u)) h.2.1)
+    (part_of ask text goals false letters (free_form (written ++ u)) a g l (free_form-free_form (written ++ u)) h.2.1)
 part_of ask (Member place inverse ∷ text) goals members letters written a g l w h =
     let u = word_of ask (Member place inverse) in
     longer ask (Member place inverse) text goals members true letters letters written h.1 (λ part o. o) (λ b. refl)
-      (part_of ask text goals true letters (free_form (written ++ u)) a g l (free_form-free_form (written ++ u)) h.2)
+    (part_of ask text goals true letters (free_form (written ++ u)) a g l (free_form-free_form (written ++ u)) h.2)
 part_of ask (Cut ∷ text) goals members letters written a g l w h =
     record {
-      part = []; rest = text; split = refl; symbols = tt; order = tt;
+      part = [];
+      rest = text;
+      split = refl;
+      symbols = tt;
+      order = tt;
       vanish = take_form letters l ∙ h.2.1;
       goal = h.2.0 ∙ ap (λ t. t ∷ drop 1 goals) (sym (take_form written w));
-      others = parted_start ask text (drop 1 goals) a (λ some. part_of ask text (drop 1 goals) false [] [] a some refl refl h.2.2) h.2.2
+      others = parted_start ask text (drop 1 goals) a (λ some. part_of ask text (drop 1 goals) false [] [] a some refl refl h.2.2) h.2.2;
     }
 
 -- what the one pass accepts is accepted
@@ -215,17 +225,32 @@ run_part : (ask : Inquiry) (part rest : List Symbol) (goals : List (List ℤ)) (
     → Runs ask rest (drop 1 goals) false [] [] → Runs ask (part ++ Cut ∷ rest) goals members letters written
 run_part ask [] rest goals members letters written g l w s o v e r =
     (g, tt, (e ∙ ap (λ t. t ∷ drop 1 goals) (take_form written w), sym (take_form letters l) ∙ v, r))
-run_part ask (Letter x ∷ part) rest goals members letters written g l w s o v e r =
-    (g, s.0, (o.0, run_part ask part rest goals false (free_form (letters ++ x ∷ [])) (free_form (written ++ x ∷ [])) g (free_form-free_form (letters ++ x ∷ [])) (free_form-free_form (written ++ x ∷ [])) s.1 o.1
-      (step_form letters (x ∷ []) (letters_alone part) ∙ v) (e ∙ ap (λ t. t ∷ drop 1 goals) (sym (step_form written (x ∷ []) (written_out ask part)))) r))
+run_part ask (Letter x ∷ part) rest goals members letters written g l w s o v e r = (
+  g,
+  s.0,
+  (
+    o.0,
+    run_part ask part rest goals false (free_form (letters ++ x ∷ [])) (free_form (written ++ x ∷ [])) g (free_form-free_form (letters ++ x ∷ [])) (free_form-free_form (written ++ x ∷ [])) s.1 o.1
+        (step_form letters (x ∷ []) (letters_alone part) ∙ v) (e ∙ ap (λ t. t ∷ drop 1 goals) (sym (step_form written (x ∷ []) (written_out ask part)))) r,
+  ),
+)
 run_part ask (Relator place inverse ∷ part) rest goals members letters written g l w s o v e r =
-    let u = word_of ask (Relator place inverse) in
-    (g, s.0, (o.0, run_part ask part rest goals false letters (free_form (written ++ u)) g l (free_form-free_form (written ++ u)) s.1 o.1
-      v (e ∙ ap (λ t. t ∷ drop 1 goals) (sym (step_form written u (written_out ask part)))) r))
+    let u = word_of ask (Relator place inverse) in (
+      g,
+      s.0,
+      (
+        o.0,
+        run_part ask part rest goals false letters (free_form (written ++ u)) g l (free_form-free_form (written ++ u)) s.1 o.1
+            v (e ∙ ap (λ t. t ∷ drop 1 goals) (sym (step_form written u (written_out ask part)))) r,
+      ),
+    )
 run_part ask (Member place inverse ∷ part) rest goals members letters written g l w s o v e r =
-    let u = word_of ask (Member place inverse) in
-    (g, s.0, run_part ask part rest goals true letters (free_form (written ++ u)) g l (free_form-free_form (written ++ u)) s.1 o
-      v (e ∙ ap (λ t. t ∷ drop 1 goals) (sym (step_form written u (written_out ask part)))) r)
+    let u = word_of ask (Member place inverse) in (
+      g,
+      s.0,
+      run_part ask part rest goals true letters (free_form (written ++ u)) g l (free_form-free_form (written ++ u)) s.1 o
+          v (e ∙ ap (λ t. t ∷ drop 1 goals) (sym (step_form written u (written_out ask part)))) r,
+    )
 run_part ask (Cut ∷ part) rest goals members letters written g l w s o v e r = absurd o
 
 run_parts : (ask : Inquiry) (parts : List (List Symbol)) (goals : List (List ℤ)) → AllByRecursion (IsReducedOver ask.group.generators) goals → AllByRecursion (IsSymbolOf ask) (flat_map closed parts)
@@ -240,9 +265,9 @@ run_parts ask (part ∷ parts) (goal ∷ goals) g s o v w =
     let s' : AllByRecursion (IsSymbolOf ask) (part ++ Cut ∷ rest) = subst (λ (t : List Symbol). AllByRecursion (IsSymbolOf ask) t) e s in
     let f : goal ∷ goals ≡ free_form (written_out ask part) ∷ goals = ap (λ t. t ∷ goals) (sym (same_form m (written_out ask part) goal w.0 ∙ free_form-reduced goal g.0.reduced)) in
     subst (λ (t : List Symbol). Runs ask t (goal ∷ goals) false [] []) (sym e)
-      (run_part ask part rest (goal ∷ goals) false [] [] (omega arith) refl refl (all_left (IsSymbolOf ask) part (Cut ∷ rest) s') (in_order_from part o.0)
-        (same_form m (letters_alone part) [] v.0) f
-        (run_parts ask parts goals g.1 (all_right (IsSymbolOf ask) part (Cut ∷ rest) s').1 o.1 v.1 w.1))
+    (run_part ask part rest (goal ∷ goals) false [] [] (omega arith) refl refl (all_left (IsSymbolOf ask) part (Cut ∷ rest) s') (in_order_from part o.0)
+    (same_form m (letters_alone part) [] v.0) f
+    (run_parts ask parts goals g.1 (all_right (IsSymbolOf ask) part (Cut ∷ rest) s').1 o.1 v.1 w.1))
 
 -- what is accepted the one pass accepts
 pub runs_from_accepted : (ask : Inquiry) (text : List Symbol) → IsAsked ask → IsAccepted ask text → Runs ask text ask.goals false [] []

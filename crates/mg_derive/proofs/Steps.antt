@@ -82,9 +82,9 @@ letter_taken ask goals members l w l' w' symbol x e g s m h k p q rest =
     let el = pushed_is l x l' h p in
     let ew = pushed_is w x w' k q in
     let there : Runs ask (Letter x ∷ rest) goals members l w → Runs ask rest goals members l' w' =
-      λ r. subst (λ (b : Bool). Runs ask rest goals b l' w') (sym m) (subst (λ (t : List ℤ). Runs ask rest goals false l' t) (sym ew) (subst (λ (t : List ℤ). Runs ask rest goals false t (free_form (w ++ x ∷ []))) (sym el) r.2.1)) in
+    λ r. subst (λ (b : Bool). Runs ask rest goals b l' w') (sym m) (subst (λ (t : List ℤ). Runs ask rest goals false l' t) (sym ew) (subst (λ (t : List ℤ). Runs ask rest goals false t (free_form (w ++ x ∷ []))) (sym el) r.2.1)) in
     let back : Runs ask rest goals members l' w' → Runs ask (Letter x ∷ rest) goals members l w =
-      λ r. (g, s, (m, subst (λ (t : List ℤ). Runs ask rest goals false t (free_form (w ++ x ∷ []))) el (subst (λ (t : List ℤ). Runs ask rest goals false l' t) ew (subst (λ (b : Bool). Runs ask rest goals b l' w') m r)))) in
+    λ r. (g, s, (m, subst (λ (t : List ℤ). Runs ask rest goals false t (free_form (w ++ x ∷ []))) el (subst (λ (t : List ℤ). Runs ask rest goals false l' t) ew (subst (λ (b : Bool). Runs ask rest goals b l' w') m r)))) in
     subst (λ (t : Symbol). Runs ask (t ∷ rest) goals members l w ↔ Runs ask rest goals members l' w') (sym e) (there, back)
 
 -- the goal at a place
@@ -98,11 +98,19 @@ cut_taken ask all i g members l w w' symbol e n s el ew en rest =
     let d : drop 1 (drop i all) ≡ drop (i + 1) all = drop-drop 1 i all in
     let f : drop i all ≡ w ∷ drop 1 (drop i all) = goal_at all i g s ∙ (ap (λ t. t ∷ drop (i + 1) all) (sym ew) ∙ ap (λ t. w ∷ t) (sym d)) in
     let there : Runs ask (Cut ∷ rest) (drop i all) members l w → Runs ask rest (drop (i + 1) all) false l w' =
-      λ r. subst (λ (t : List ℤ). Runs ask rest (drop (i + 1) all) false l t) (sym en)
-        (subst (λ (t : List ℤ). Runs ask rest (drop (i + 1) all) false t []) (sym el) (subst (λ (t : List (List ℤ)). Runs ask rest t false [] []) d r.2.2)) in
+    λ r. subst (λ (t : List ℤ). Runs ask rest (drop (i + 1) all) false l t) (sym en)
+    (subst (λ (t : List ℤ). Runs ask rest (drop (i + 1) all) false t []) (sym el) (subst (λ (t : List (List ℤ)). Runs ask rest t false [] []) d r.2.2)) in
     let back : Runs ask rest (drop (i + 1) all) false l w' → Runs ask (Cut ∷ rest) (drop i all) members l w =
-      λ r. (n, tt, (f, el, subst (λ (t : List (List ℤ)). Runs ask rest t false [] []) (sym d)
-        (subst (λ (t : List ℤ). Runs ask rest (drop (i + 1) all) false t []) el (subst (λ (t : List ℤ). Runs ask rest (drop (i + 1) all) false l t) en r)))) in
+    λ r. (
+      n,
+      tt,
+      (
+        f,
+        el,
+        subst (λ (t : List (List ℤ)). Runs ask rest t false [] []) (sym d)
+            (subst (λ (t : List ℤ). Runs ask rest (drop (i + 1) all) false t []) el (subst (λ (t : List ℤ). Runs ask rest (drop (i + 1) all) false l t) en r)),
+      ),
+    ) in
     subst (λ (t : Symbol). Runs ask (t ∷ rest) (drop i all) members l w ↔ Runs ask rest (drop (i + 1) all) false l w') (sym e) (there, back)
 
 pub cut_refused_letters : (ask : Inquiry) (goals : List (List ℤ)) (members : Bool) (l w : List ℤ) (symbol : Symbol) → symbol ≡ Cut → l ≢ []
@@ -136,11 +144,11 @@ pub finished : (ask : Inquiry) (text : List Symbol) (i goal : ℕ) (members : Bo
 finished ask text i goal members l w r a g n e h =
     let d : drop i text ≡ [] = drop_all i text n in
     let there : IsTrue r → IsAccepted ask text = λ t.
-      let k : goal ≡ length ask.goals = (Decides-eqb goal (length ask.goals)).0 (sym e ∙ t) in
-      accepted_from_runs ask text a (h.0 (subst (λ (t : List Symbol). Runs ask t (drop goal ask.goals) members l w) (sym d) (drop_all goal ask.goals (omega arith)))) in
+    let k : goal ≡ length ask.goals = (Decides-eqb goal (length ask.goals)).0 (sym e ∙ t) in
+    accepted_from_runs ask text a (h.0 (subst (λ (t : List Symbol). Runs ask t (drop goal ask.goals) members l w) (sym d) (drop_all goal ask.goals (omega arith)))) in
     let back : IsAccepted ask text → IsTrue r = λ p.
-      let f : drop goal ask.goals ≡ [] = subst (λ (t : List Symbol). Runs ask t (drop goal ask.goals) members l w) d (h.1 (runs_from_accepted ask text a p)) in
-      e ∙ eq-eqb goal (length ask.goals) (none_left (List ℤ) ask.goals goal g f) in
+    let f : drop goal ask.goals ≡ [] = subst (λ (t : List Symbol). Runs ask t (drop goal ask.goals) members l w) d (h.1 (runs_from_accepted ask text a p)) in
+    e ∙ eq-eqb goal (length ask.goals) (none_left (List ℤ) ask.goals goal g f) in
     (there, back)
 
 -- ---- room for texts of a length
@@ -172,7 +180,7 @@ pub room_for_length : (ask : Inquiry) (relator member symbols : ℕ) (room : Roo
     → (text : List Symbol) → AllByRecursion (IsSymbolOf ask) text → length text ≤ symbols → HasRoom ask text room
 room_for_length ask relator member symbols room h k l w text s n = record {
   letters = omega (arith, letters_within text);
-  written = omega (arith, written_within ask (max (max relator member) 1) (longest_word ask relator member h k) text s, mul-le-mul_left (max (max relator member) 1) n)
+  written = omega (arith, written_within ask (max (max relator member) 1) (longest_word ask relator member h k) text s, mul-le-mul_left (max (max relator member) 1) n);
 }
 
 -- two things that an answer says, joined

@@ -1,6 +1,6 @@
 -- How the checker reads a text once, from the front. Private functions alone cite it; what is accepted is
 -- said without it.
-use Rattle.std.specs.Prelude.{◌≡◌, ℕ, ◌<◌, Bool, true, false, ℤ, List, [], ◌∷◌, ◌++◌, length, drop}
+use Rattle.std.specs.Prelude.{◌≡◌, ℕ, ◌+◌, ◌<◌, ◌==◌, if◌then◌else◌, Bool, true, false, ℤ, List, [], ◌∷◌, ◌++◌, length, drop}
 use Rattle.mg_words.proofs.Free.{free_form}
 use Rattle.mg_present.specs.Ask.{Inquiry}
 use Rattle.mg_derive.specs.declared.symbol.Symbol.{Symbol}
@@ -18,3 +18,8 @@ Goes ask Cut goals members letters written Rest = (goals ≡ written ∷ drop 1 
 abbrev pub Runs : Inquiry → List Symbol → List (List ℤ) → Bool → List ℤ → List ℤ → Type 0
 Runs ask [] goals members letters written = goals ≡ []
 Runs ask (symbol ∷ text) goals members letters written = (0 < length goals) × IsSymbolOf ask symbol × Goes ask symbol goals members letters written (Runs ask text)
+
+-- how many of some digits are the cut
+abbrev pub cuts_among : ℕ → List ℕ → ℕ
+cuts_among cut [] = 0
+cuts_among cut (digit ∷ digits) = (if digit == cut then 1 else 0) + cuts_among cut digits

@@ -24,7 +24,12 @@ pub fn accepts(ask: &Ask, text: &Derivation, buffers: &mut Buffers) -> bool
 {
     buffers.letters.clear();
     buffers.written.clear();
-    read(ask, text.symbols(), &mut buffers.letters, &mut buffers.written)
+    read(
+        ask,
+        text.symbols(),
+        &mut buffers.letters,
+        &mut buffers.written,
+    )
 }
 
 // Where the reader of a text stands: which goal the part is for that it reads, and whether it read a
@@ -60,7 +65,13 @@ fn read(ask: &Ask, text: &[Symbol], letters: &mut Word, written: &mut Word) -> b
 }
 
 // Takes one more symbol; None exactly where the text can't be accepted whatever follows.
-fn take(ask: &Ask, symbol: Symbol, stand: Stand, letters: &mut Word, written: &mut Word) -> Option<Stand>
+fn take(
+    ask: &Ask,
+    symbol: Symbol,
+    stand: Stand,
+    letters: &mut Word,
+    written: &mut Word,
+) -> Option<Stand>
     requires goal { stand.goal ≤ length ask.now.goals }
     requires letters_reduced { IsReduced letters.old.letters }
     requires written_reduced { IsReduced written.old.letters }

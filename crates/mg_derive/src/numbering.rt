@@ -95,5 +95,4 @@ pub fn texts_and_numbers_correspond()
     ensures one_text { (ask : Inquiry) (s t : List SymbolOf) (n : ℕ) → IsNumbered ask s n → IsNumbered ask t n → s ≡ t }
     ensures each_text { (ask : Inquiry) (t : List SymbolOf) → AllByRecursion (IsSymbolOf ask) t → (n : ℕ) × (1 ≤ n) × IsNumbered ask t n }
     ensures each_number { (ask : Inquiry) (n : ℕ) → 1 ≤ n → (t : List SymbolOf) × IsNumbered ask t n }
-{
-}
+{}

@@ -6,6 +6,7 @@ ghost use Rattle.mg_present.specs.Ask.{IsAsked};
 ghost use Rattle.mg_derive.specs.Acceptance.{AcceptedAt, IsAccepted, IsNumbered};
 ghost use Rattle.mg_derive.specs.Room.{HasRoom};
 ghost use Rattle.mg_derive.specs.Symbols.{symbol_count as count_of};
+ghost use Rattle.mg_derive.specs.Reading.{cuts_among};
 ghost use Rattle.mg_derive.specs.Search.{HasRoomForAll};
 ghost use Rattle.mg_derive.specs.declared.search.Advance.TheVariants.{More, Found};
 
@@ -145,7 +146,13 @@ impl Enumeration {
         ensures refused { result ≡ false → AcceptedAt self.old.ask self.new.cursor → ⊥ }
         ensures none { self.new.is_open ≡ true → NoneAmong (AcceptedAt self.new.ask) 0 self.new.cursor }
     {
-        let found = is_accepted(&self.ask, self.base, &self.digits, &mut self.text, &mut self.buffers);
+        let found = is_accepted(
+            &self.ask,
+            self.base,
+            &self.digits,
+            &mut self.text,
+            &mut self.buffers,
+        );
         self.cursor += 1;
         if found {
             self.is_open = false;
@@ -156,9 +163,15 @@ impl Enumeration {
     }
 }
 
-// Whether the text with these digits is accepted. Only a text that ends with the cut can be, and, where
-// there are no goals, the empty text: the symbols of all others aren't looked at.
-fn is_accepted(ask: &Ask, base: u32, digits: &Digits, text: &mut Derivation, buffers: &mut Buffers) -> bool
+// Whether the text with these digits is accepted. The symbols are looked at only where the cuts among the
+// digits allow it.
+fn is_accepted(
+    ask: &Ask,
+    base: u32,
+    digits: &Digits,
+    text: &mut Derivation,
+    buffers: &mut Buffers,
+) -> bool
     requires base { base ≡ count_of ask.now }
     requires digits { IsText base digits.now }
     requires most { value base digits.now ≤ 2 ^ 62 }
@@ -171,21 +184,37 @@ fn is_accepted(ask: &Ask, base: u32, digits: &Digits, text: &mut Derivation, buf
     ensures room { HasRoomForAll ask.now buffers.new }
 {
     let digits = digits.as_slice();
-    if !can_end(ask, base, digits) {
+    if !can_be_accepted(ask, base, digits) {
         return false;
     }
     write_symbols(ask, digits, text);
     accepts(ask, text, buffers)
 }
 
-// Whether a text with these digits can be accepted by its end.
-fn can_end(ask: &Ask, base: u32, digits: &[u32]) -> bool
+// Whether a text with these digits may be accepted: one that isn't empty ends with the cut, and there are
+// as many cuts as goals.
+fn can_be_accepted(ask: &Ask, base: u32, digits: &[u32]) -> bool
     requires base { base ≡ count_of ask.now }
     requires digits { IsText base digits.now }
     ensures { result ≡ false → AcceptedAt ask.now (value base digits.now + 1) → ⊥ }
 {
-    match digits.last() {
-        Some(last) => *last == base,
-        None => ask.goals().len() == 0,
+    if let Some(last) = digits.last() {
+        if *last != base {
+            return false;
+        }
     }
+    cut_count(base, digits) == ask.goals().len()
+}
+
+// How many of the digits are the cut.
+fn cut_count(cut: u32, digits: &[u32]) -> usize
+    ensures { result ≡ cuts_among cut digits.now }
+{
+    let mut count = 0;
+    for &digit in digits {
+        if digit == cut {
+            count += 1;
+        }
+    }
+    count
 }

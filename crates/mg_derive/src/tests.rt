@@ -14,14 +14,17 @@ const A: Letter = Letter {
     generator: 1,
     inverse: false,
 };
+
 const B: Letter = Letter {
     generator: 2,
     inverse: false,
 };
+
 const A_BACK: Letter = Letter {
     generator: 1,
     inverse: true,
 };
+
 const B_BACK: Letter = Letter {
     generator: 2,
     inverse: true,
@@ -31,18 +34,22 @@ const MEMBER_1: Symbol = Symbol::Member {
     place: 1,
     inverse: false,
 };
+
 const MEMBER_1_BACK: Symbol = Symbol::Member {
     place: 1,
     inverse: true,
 };
+
 const MEMBER_2_BACK: Symbol = Symbol::Member {
     place: 2,
     inverse: true,
 };
+
 const RELATOR_1: Symbol = Symbol::Relator {
     place: 1,
     inverse: false,
 };
+
 const RELATOR_3: Symbol = Symbol::Relator {
     place: 3,
     inverse: false,
@@ -77,7 +84,11 @@ fn words(alloc: Global, generators: u32, lists: &[&[Letter]]) -> Result<Words, N
 }
 
 fn ask_of(alloc: Global, row: &Row) -> Result<Ask, NoMemory> {
-    if row.generators > 64 || row.relators.len() > 256 || row.subgroup.len() > 64 || row.goals.len() > 4_096 {
+    if row.generators > 64
+        || row.relators.len() > 256
+        || row.subgroup.len() > 64
+        || row.goals.len() > 4_096
+    {
         return Err(AllocError);
     }
     let group = Presentation::new(row.generators, words(alloc, row.generators, row.relators)?);
@@ -101,9 +112,19 @@ fn free_ask(alloc: Global) -> Result<Ask, NoMemory> {
     )
 }
 
+// Whether the search finds the text of the row, at its number and not before.
+fn finds(alloc: Global, row: &Row) -> Result<bool, NoMemory> {
+    let mut search = Enumeration::start(alloc, ask_of(alloc, row)?)?;
+    let spent = row.number;
+    if search.advance(2_000) != (Advance::Found { spent }) {
+        return Ok(false);
+    }
+    Ok(search.cursor() == spent && search.text().symbols() == row.text)
+}
+
 #[test]
-fn first_accepted_texts(rt: HostRuntime) -> Result<(), Fail> {
-    let empty = Row {
+fn an_ask_of_nothing_is_settled_by_the_empty_text(rt: HostRuntime) -> Result<(), Fail> {
+    let nothing = Row {
         generators: 0,
         relators: &[],
         subgroup: &[],
@@ -111,55 +132,58 @@ fn first_accepted_texts(rt: HostRuntime) -> Result<(), Fail> {
         number: 1,
         text: &[],
     };
-    let rows = [
-        empty,
-        Row {
-            generators: 1,
-            relators: &[&[A, A]],
-            goals: &[&[]],
-            number: 6,
-            text: &[Symbol::Cut],
-            ..empty
-        },
-        Row {
-            generators: 1,
-            relators: &[&[A, A]],
-            goals: &[&[A, A]],
-            number: 21,
-            text: &[RELATOR_1, Symbol::Cut],
-            ..empty
-        },
-        Row {
-            generators: 2,
-            subgroup: &[&[A, A], &[A, B]],
-            goals: &[&[B_BACK, A]],
-            number: 703,
-            text: &[MEMBER_2_BACK, MEMBER_1, Symbol::Cut],
-            ..empty
-        },
-        Row {
-            generators: 2,
-            relators: &[&[A, A]],
-            goals: &[&[B, A, A, B_BACK]],
-            number: 1_310,
-            text: &[Symbol::Letter(B), RELATOR_1, Symbol::Letter(B_BACK), Symbol::Cut],
-            ..empty
-        },
-        Row {
-            generators: 2,
-            relators: &[&[A, A], &[B, B, B], &[A, B, A, B]],
-            subgroup: &[&[B]],
-            goals: &[&[A, B, A]],
-            number: 1_691,
-            text: &[RELATOR_3, MEMBER_1_BACK, Symbol::Cut],
-        },
-    ];
-    for row in &rows {
-        let mut search = Enumeration::start(rt.alloc(), ask_of(rt.alloc(), row)?)?;
-        assert_eq!(rt; search.advance(2_000), Advance::Found { spent: row.number });
-        assert_eq!(rt; search.cursor(), row.number);
-        assert_eq!(rt; search.text().symbols(), row.text);
-    }
+    assert!(rt; finds(rt.alloc(), &nothing)?);
+    Ok(())
+}
+
+#[test]
+fn first_texts_in_a_group_of_order_two(rt: HostRuntime) -> Result<(), Fail> {
+    let empty = Row {
+        generators: 1,
+        relators: &[&[A, A]],
+        subgroup: &[],
+        goals: &[&[]],
+        number: 6,
+        text: &[Symbol::Cut],
+    };
+    assert!(rt; finds(rt.alloc(), &empty)?);
+    let square = Row {
+        generators: 1,
+        relators: &[&[A, A]],
+        subgroup: &[],
+        goals: &[&[A, A]],
+        number: 21,
+        text: &[RELATOR_1, Symbol::Cut],
+    };
+    assert!(rt; finds(rt.alloc(), &square)?);
+    Ok(())
+}
+
+#[test]
+fn first_texts_with_two_generators(rt: HostRuntime) -> Result<(), Fail> {
+    let conjugate = Row {
+        generators: 2,
+        relators: &[&[A, A]],
+        subgroup: &[],
+        goals: &[&[B, A, A, B_BACK]],
+        number: 1_310,
+        text: &[
+            Symbol::Letter(B),
+            RELATOR_1,
+            Symbol::Letter(B_BACK),
+            Symbol::Cut,
+        ],
+    };
+    assert!(rt; finds(rt.alloc(), &conjugate)?);
+    let symmetric = Row {
+        generators: 2,
+        relators: &[&[A, A], &[B, B, B], &[A, B, A, B]],
+        subgroup: &[&[B]],
+        goals: &[&[A, B, A]],
+        number: 1_691,
+        text: &[RELATOR_3, MEMBER_1_BACK, Symbol::Cut],
+    };
+    assert!(rt; finds(rt.alloc(), &symmetric)?);
     Ok(())
 }
 
@@ -170,7 +194,13 @@ fn a_letter_after_a_member_sign_is_refused(rt: HostRuntime) -> Result<(), Fail> 
     let text = Derivation::from_symbols(alloc, &[MEMBER_2_BACK, MEMBER_1, Symbol::Cut])?;
     let mut buffers = Buffers::for_text(alloc, &ask, &text)?;
     assert!(rt; accepts(&ask, &text, &mut buffers));
-    let symbols = [MEMBER_2_BACK, Symbol::Letter(A), Symbol::Letter(A_BACK), MEMBER_1, Symbol::Cut];
+    let symbols = [
+        MEMBER_2_BACK,
+        Symbol::Letter(A),
+        Symbol::Letter(A_BACK),
+        MEMBER_1,
+        Symbol::Cut,
+    ];
     let text = Derivation::from_symbols(alloc, &symbols)?;
     let mut buffers = Buffers::for_text(alloc, &ask, &text)?;
     assert!(rt; !accepts(&ask, &text, &mut buffers));
@@ -186,7 +216,10 @@ fn texts_by_number(rt: HostRuntime) -> Result<(), Fail> {
     let mut text = Derivation::with_room(alloc, 4_096)?;
     let mut digits = Digits::make(alloc)?;
     symbols_at(&ask, 703, &mut text, &mut digits);
-    assert_eq!(rt; text.symbols(), [MEMBER_2_BACK, MEMBER_1, Symbol::Cut].as_slice());
+    assert_eq!(rt;
+        text.symbols(),
+        [MEMBER_2_BACK, MEMBER_1, Symbol::Cut].as_slice()
+    );
     assert_eq!(rt; text.copy(alloc)?.symbols(), text.symbols());
     let mut buffers = Buffers::for_length(alloc, &ask, 3)?;
     assert!(rt; accepts(&ask, &text, &mut buffers));

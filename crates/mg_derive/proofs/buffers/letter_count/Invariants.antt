@@ -5,5 +5,5 @@ use Rattle.mg_derive.proofs.buffers.letter_count.Given as goal
 abbrev pub invariant-loop-symbol : goal.invariant-loop-symbol
 invariant-loop-symbol l = record {
   within : l.count ≤ l.symbol-index;
-  counted : l.count + length (letters_alone (drop l.symbol-index l.symbols)) ≡ length (letters_alone l.symbols)
+  counted : l.count + length (letters_alone (drop l.symbol-index l.symbols)) ≡ length (letters_alone l.symbols);
 }

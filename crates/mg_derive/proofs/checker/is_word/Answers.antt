@@ -6,5 +6,5 @@ use Rattle.mg_derive.proofs.checker.is_word.Goals as goal
 pub returns : goal.returns
 returns c = (
   λ h. letters_exact c.args.written.now.letters c.args.goal.now.letters (equal_from_test _ _ c.eq.ensures h),
-  λ e. test_from_equal _ _ c.eq.ensures (letters_same c.args.written.now.letters c.args.goal.now.letters e)
+  λ e. test_from_equal _ _ c.eq.ensures (letters_same c.args.written.now.letters c.args.goal.now.letters e),
 )

@@ -14,5 +14,5 @@ invariant-loop-symbol l = record {
   letters_room : length l.letters.letters + length (letters_alone (drop l.symbol-index l.text)) ≤ l.letters.capacity;
   written_room : length l.written.letters + length (written_out l.ask (drop l.symbol-index l.text)) ≤ l.written.capacity;
   letters_kept : l.initial.letters.capacity ≤ l.letters.capacity;
-  written_kept : l.initial.written.capacity ≤ l.written.capacity
+  written_kept : l.initial.written.capacity ≤ l.written.capacity;
 }

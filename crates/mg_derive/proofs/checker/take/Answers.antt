@@ -9,10 +9,10 @@ pub returns-else-from-generators-clause-taken : goal.returns-else-from-generator
 returns-else-from-generators-clause-taken c =
     let ask = c.args.ask.now in
     letter_taken ask (drop c.args.stand.goal ask.goals) c.args.stand.members c.args.letters.now.letters c.args.written.now.letters _ _ c.args.symbol c.in-Letter.letter c.in-Letter.is
-      (omega (arith, length-drop c.args.stand.goal ask.goals, ap length c.goals.ensures.value))
-      (letter_within ask.group.generators c.letter.inside.generator c.letter.inside.inverse c.in-Letter.letter c.letter.view_is c.letter.invariant.least
-        (omega (arith, c.from.ensures, c.generators.ensures.value, ap (λ g. g.generators) c.group.ensures.value)))
-      c.if-stand.false c.requires.letters_reduced c.requires.written_reduced c.push_reduced.ensures.pushed c.push_reduced-in-Letter.ensures.pushed
+    (omega (arith, length-drop c.args.stand.goal ask.goals, ap length c.goals.ensures.value))
+    (letter_within ask.group.generators c.letter.inside.generator c.letter.inside.inverse c.in-Letter.letter c.letter.view_is c.letter.invariant.least
+    (omega (arith, c.from.ensures, c.generators.ensures.value, ap (λ g. g.generators) c.group.ensures.value)))
+    c.if-stand.false c.requires.letters_reduced c.requires.written_reduced c.push_reduced.ensures.pushed c.push_reduced-in-Letter.ensures.pushed
 
 pub returns-else-not-is_word-clause-taken : goal.returns-else-not-is_word-clause-taken
 returns-else-not-is_word-clause-taken c =
@@ -20,20 +20,20 @@ returns-else-not-is_word-clause-taken c =
     let g = c.at.result.now.letters in
     let s : slice_get ask.goals c.args.stand.goal ≡ Some g = ap (λ t. slice_get t c.args.stand.goal) (sym c.goals-else-not-is_empty.ensures.value) ∙ c.at.ensures in
     cut_taken ask ask.goals c.args.stand.goal g c.args.stand.members c.args.letters.now.letters c.args.written.now.letters c.clear.new.self.letters c.args.symbol c.in-Cut.is
-      (omega (arith, length-drop c.args.stand.goal ask.goals, ap length c.goals.ensures.value))
-      s (empty _ _ _ c.is_empty.ensures c.letters.ensures c.if-not-is_empty.false) (c.is_word.ensures.0 c.if-not-is_word.false) c.clear.ensures.empty
+    (omega (arith, length-drop c.args.stand.goal ask.goals, ap length c.goals.ensures.value))
+    s (empty _ _ _ c.is_empty.ensures c.letters.ensures c.if-not-is_empty.false) (c.is_word.ensures.0 c.if-not-is_word.false) c.clear.ensures.empty
 
 pub returns-then-not-is_empty-clause-refused : goal.returns-then-not-is_empty-clause-refused
 returns-then-not-is_empty-clause-refused c =
     let ask = c.args.ask.now in
     let goals = drop c.args.stand.goal ask.goals in
     elim c.then-not-is_empty.branch [
-      then-not-is_empty-via-then-not-is_empty w ↦
-        cut_refused_letters ask goals c.args.stand.members c.args.letters.now.letters c.args.written.now.letters c.args.symbol c.in-Cut.is
+      | then-not-is_empty-via-then-not-is_empty w ↦
+          cut_refused_letters ask goals c.args.stand.members c.args.letters.now.letters c.args.written.now.letters c.args.symbol c.in-Cut.is
           (not_empty _ _ _ c.is_empty.ensures c.letters.ensures w.if-not-is_empty.true)
-    | then-not-is_empty-via-else-not-is_empty+then-not-is_word w ↦
-        let g = w.at.result.now.letters in
-        let s : slice_get ask.goals c.args.stand.goal ≡ Some g = ap (λ t. slice_get t c.args.stand.goal) (sym w.goals-else-not-is_empty.ensures.value) ∙ w.at.ensures in
-        cut_refused_goal ask ask.goals c.args.stand.goal g c.args.stand.members c.args.letters.now.letters c.args.written.now.letters c.args.symbol c.in-Cut.is s
+      | then-not-is_empty-via-else-not-is_empty+then-not-is_word w ↦
+          let g = w.at.result.now.letters in
+          let s : slice_get ask.goals c.args.stand.goal ≡ Some g = ap (λ t. slice_get t c.args.stand.goal) (sym w.goals-else-not-is_empty.ensures.value) ∙ w.at.ensures in
+          cut_refused_goal ask ask.goals c.args.stand.goal g c.args.stand.members c.args.letters.now.letters c.args.written.now.letters c.args.symbol c.in-Cut.is s
           (not_same _ _ _ w.is_word.ensures w.if-not-is_word.true)
     ]

@@ -29,7 +29,7 @@ loop-letter-preserved c = record {
   done =
       pushed_back c.args.written.now.letters (map (λ y. y.now) c.loop-letter.yielded) _ _ c.in-Some.letter.now _ c.inverted.ensures c.loop-letter.invariant.done c.push_reduced.ensures.pushed
       ∙ ap (λ t. free_form (c.args.written.now.letters ++ map neg_ℤ t)) (sym (map_push (λ y. y.now) c.loop-letter.yielded c.in-Some.letter));
-  room = omega arith
+  room = omega arith;
 }
 
 pub returns-clause-reduced : goal.returns-clause-reduced

@@ -7,5 +7,5 @@ invariant-loop-letter l = record {
   can : (goal.iterator-loop-letter).can_next l.letter-iterator;
   finite : (goal.iterator-loop-letter).is_finite l.letter-iterator;
   done : l.written.letters ≡ free_form (l.initial.written.letters ++ map neg_ℤ (map (λ y. y.now) l.yielded));
-  room : l.initial.written.capacity ≤ l.written.capacity
+  room : l.initial.written.capacity ≤ l.written.capacity;
 }

@@ -17,7 +17,7 @@ push_reduced-requires-clause-room c =
 pub loop-letter-preserved : goal.loop-letter-preserved
 loop-letter-preserved c = record {
   done = word_next c.args.written.now.letters c.args.word.now _ _ c.loop-letter.letter-index c.letter-item.result (omega arith) c.letter-item.is c.loop-letter.invariant.done c.push_reduced.ensures.pushed;
-  room = omega arith
+  room = omega arith;
 }
 
 pub returns-clause-reduced : goal.returns-clause-reduced

@@ -7,5 +7,5 @@ abbrev pub invariant-loop-digit : goal.invariant-loop-digit
 invariant-loop-digit l = record {
   symbols : AllByRecursion (IsSymbolOf l.ask) l.out.symbols;
   digits_done : map (digit_of l.ask) l.out.symbols ≡ take l.digit-index l.digits;
-  capacity : l.initial.out.capacity ≤ l.out.capacity
+  capacity : l.initial.out.capacity ≤ l.out.capacity;
 }

@@ -10,6 +10,6 @@ returns c =
     let relator = subst (λ (t : List (List ℤ)). (k : ℕ) → k < length t → length (get_or t k []) ≤ c.longest-relator.result) relators c.longest-relator.ensures in
     let member = subst (λ (t : List (List ℤ)). (k : ℕ) → k < length t → length (get_or t k []) ≤ c.longest-member.result) members c.longest-member.ensures in
     let e : c.in-Some.written ≡ max (max c.longest-relator.result c.longest-member.result) 1 * c.args.symbols =
-      c.in-Some.ensures.1 ∙ ap (λ n. n * c.args.symbols) (c.max-2.ensures ∙ ap (λ n. max n 1) c.max.ensures) in
+    c.in-Some.ensures.1 ∙ ap (λ n. n * c.args.symbols) (c.max-2.ensures ∙ ap (λ n. max n 1) c.max.ensures) in
     both_ok _ _ _ _ c.with_room.ensures.letters c.with_room.ensures.written
-      (λ room l w. room_for_length ask c.longest-relator.result c.longest-member.result c.args.symbols room relator member l (omega arith))
+    (λ room l w. room_for_length ask c.longest-relator.result c.longest-member.result c.args.symbols room relator member l (omega arith))

@@ -11,8 +11,8 @@ returns-then-test_next-clause-found c =
     λ spent e.
     let k : c.loop-spent.spent + 1 ≡ spent = cc e in
     finds_first c.args.self.now.ask new.ask c.args.self.now.cursor c.args.units c.loop-spent.self.cursor new.cursor c.loop-spent.spent new.text
-      (c.test_next.ensures.ask ∙ c.loop-spent.invariant.ask) c.test_next.ensures.cursor c.loop-spent.invariant.cursor (omega arith)
-      c.loop-spent.invariant.none (c.test_next.ensures.numbered c.if-test_next.true) (c.test_next.ensures.accepted c.if-test_next.true) spent k
+    (c.test_next.ensures.ask ∙ c.loop-spent.invariant.ask) c.test_next.ensures.cursor c.loop-spent.invariant.cursor (omega arith)
+    c.loop-spent.invariant.none (c.test_next.ensures.numbered c.if-test_next.true) (c.test_next.ensures.accepted c.if-test_next.true) spent k
 
 pub returns-clause-none : goal.returns-clause-none
 returns-clause-none c = λ e. c.loop-spent.invariant.from_first (omega arith)

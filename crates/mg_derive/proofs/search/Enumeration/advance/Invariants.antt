@@ -10,7 +10,7 @@ invariant-loop-spent l = record {
   goes_on : l.self.is_open ≡ true;
   within : l.spent ≤ l.units;
   none : NoneAmong (AcceptedAt l.initial.self.ask) l.initial.self.cursor l.self.cursor;
-  from_first : 1 ≤ l.spent → NoneAmong (AcceptedAt l.self.ask) 0 l.self.cursor
+  from_first : 1 ≤ l.spent → NoneAmong (AcceptedAt l.self.ask) 0 l.self.cursor;
 }
 
 abbrev pub decreases-loop-spent : goal.decreases-loop-spent

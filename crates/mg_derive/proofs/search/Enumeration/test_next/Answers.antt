@@ -12,4 +12,4 @@ advance-requires-clause-room c =
     let e = c.self.invariant.next goes_on in
     let none = none_more ask 0 cursor (c.self.invariant.none goes_on) (subst (λ (n : ℕ). AcceptedAt ask (n + 1) → ⊥) e (c.is_accepted-found.ensures.refused c.if-found.false)) in
     room_for_next ask c.self.inside.base cursor c.self.inside.digits c.self.invariant.asked c.self.invariant.is_base c.self.invariant.is_text e
-      (omega (arith, ap (λ v. v.cursor) c.self.view_is, c.requires.most)) none
+    (omega (arith, ap (λ v. v.cursor) c.self.view_is, c.requires.most)) none
