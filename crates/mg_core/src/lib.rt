@@ -1,0 +1,12 @@
+//! A log of turns over any kind of record, and the book that keeps it. A record settles a key or is a
+//! model of a group; what the log knows are the records of the turns that were kept.
+#![tactic(auto)]
+
+mod entries;
+mod laws;
+mod record;
+
+pub use entries::{Committed, Entry, Facts, Records};
+pub use laws::{facts_of_appended, legal_appended};
+pub use mg_lists::NoMemory;
+pub use record::Record;
