@@ -1,1 +1,3 @@
+pub mod Gathers
 pub mod Logs
+pub mod Scans
