@@ -13,7 +13,7 @@ pub use book::Book;
 pub use entries::{Committed, Entry, Facts, Records};
 pub use laws::{facts_of_appended, legal_appended};
 pub use mg_lists::NoMemory;
-pub use record::Record;
+pub use record::{Record, settles_key};
 
 #[cfg(test)]
 mod tests;

@@ -1,10 +1,11 @@
 //! What a log keeps.
-ghost use Rattle.std.specs.Prelude.{◌≡◌, Option, None, IsSome, IsNone, ◌↔◌, IfOk};
+ghost use Rattle.std.specs.Prelude.{◌≡◌, Option, Some, None, IsSome, IsNone, IsTrue, ◌↔◌, IfOk};
 ghost use Rattle.std.specs.Option.{option_copied};
 ghost use Rattle.std.specs.declared.cmp.Ordering.TheVariants.{Equal};
 
 use mg_lists::NoMemory;
 use std::alloc::Global;
+use std::cmp::Ordering;
 
 /// A record of a log. It settles a key, or is a model of a group, and never both.
 pub trait Record: Sized + Drop {
@@ -43,4 +44,14 @@ pub trait Record: Sized + Drop {
     ghost exact_groups: { (a b : Self.Group) → Self.Group.cmp a b ≡ Equal → a ≡ b };
 
     ghost one_of_both: { (r : Self) → valid r → IsNone (settled r) ↔ IsSome (modelled r) };
+}
+
+/// Whether the record settles the key.
+pub fn settles_key<R: Record>(one: &R, key: &R::Key) -> bool
+    ensures { IsTrue result ↔ (R.settled one.now ≡ Some key.now) }
+{
+    match one.settles() {
+        Some(settled) => settled.cmp(key) == Ordering::Equal,
+        None => false,
+    }
 }

@@ -5,20 +5,10 @@ ghost use Rattle.mg_core.specs.Log.{facts_of, IsFact, VerdictIn, Settled, Handed
 
 use crate::ahead::Ahead;
 use crate::entries::{Entry, Facts, Records};
-use crate::record::Record;
+use crate::record::{Record, settles_key};
 use mg_lists::NoMemory;
 use std::alloc::Global;
 use std::cmp::Ordering;
-
-/// Whether the fact settles the key.
-fn settles_key<R: Record>(fact: &R, key: &R::Key) -> bool
-    ensures { IsTrue result ↔ (R.settled fact.now ≡ Some key.now) }
-{
-    match fact.settles() {
-        Some(settled) => settled.cmp(key) == Ordering::Equal,
-        None => false,
-    }
-}
 
 /// Whether the fact is a model of the group.
 fn is_model<R: Record>(fact: &R, group: &R::Group) -> bool

@@ -2,8 +2,13 @@
 //! cause.
 #![tactic(auto)]
 
-mod laws;
 mod outcome;
+mod searcher;
+mod stop;
 
-pub use laws::probe;
 pub use outcome::{Limit, Outcome, TurnEnd};
+pub use searcher::Searcher;
+pub use stop::{Stop, known_verdict};
+
+#[cfg(test)]
+mod tests;
