@@ -1,3 +1,4 @@
 pub mod Gathers
+pub mod Hands
 pub mod Logs
 pub mod Scans
