@@ -1,0 +1,4 @@
+pub mod Gathers
+pub mod Hands
+pub mod Logs
+pub mod Scans

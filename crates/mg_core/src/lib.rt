@@ -1,0 +1,19 @@
+//! A log of turns over any kind of record, and the book that keeps it. A record settles a key or is a
+//! model of a group; what the log knows are the records of the turns that were kept.
+#![tactic(auto)]
+
+mod ahead;
+mod book;
+mod entries;
+mod laws;
+mod record;
+mod scan;
+
+pub use book::Book;
+pub use entries::{Committed, Entry, Facts, Records};
+pub use laws::{facts_of_appended, legal_appended};
+pub use mg_lists::NoMemory;
+pub use record::{Record, settles_key};
+
+#[cfg(test)]
+mod tests;

@@ -1,0 +1,140 @@
+//! A log over marks.
+ghost use Rattle.std.specs.Prelude.{◌≡◌, Option, Some, None, true, false, refl, if◌then◌else◌, IfOk, length, [], ◌∷◌};
+ghost use Rattle.std.proofs.Common.{rules};
+ghost use Rattle.std.proofs.lemmas.Map.Lookups.{exact_unsigned};
+
+use super::*;
+use std::alloc::Global;
+use std::test::Fail;
+
+/// A mark settles its number, or is a model of it.
+#[derive(Debug, Drop, PartialEq)]
+struct Mark {
+    settling: bool,
+    number: u32,
+}
+
+impl Record for Mark {
+    type Key = u32;
+
+    type Group = u32;
+
+    ghost valid = { λ _. Unit {0} };
+
+    ghost settled = { λ m. (if m.settling then Some m.number else None) };
+
+    ghost modelled = { λ m. (if m.settling then None else Some m.number) };
+
+    fn settles(&self) -> Option<&u32> {
+        if self.settling {
+            Some(&self.number)
+        } else {
+            None
+        }
+    }
+
+    fn model_of(&self) -> Option<&u32> {
+        if self.settling {
+            None
+        } else {
+            Some(&self.number)
+        }
+    }
+
+    fn copy(&self, _alloc: Global) -> Result<Mark, NoMemory> {
+        Ok(Mark {
+            settling: self.settling,
+            number: self.number,
+        })
+    }
+
+    ghost exact_keys = { exact_unsigned };
+
+    ghost exact_groups = { exact_unsigned };
+
+    ghost one_of_both = { λ m _. Prim.search rules };
+}
+
+/// The entry of a turn with one record.
+fn entry(alloc: Global, turn: u64, settling: bool, number: u32) -> Result<Entry<Mark>, NoMemory>
+    ensures { IfOk result (λ e. (e.dropped ≡ false) × (length e.records ≡ 1) × (e.records ≡ (record { settling = settling; number = number }) ∷ [])) }
+{
+    let mut records = Records::new(alloc);
+    records.push(Mark { settling, number })?;
+    Ok(Entry {
+        pass: 1,
+        search: 1,
+        turn,
+        units: 1,
+        dropped: false,
+        records,
+    })
+}
+
+#[test]
+fn keeps_and_drops(rt: HostRuntime) -> Result<(), Fail> {
+    let alloc = rt.alloc();
+    let mut book: Book<Mark> = Book::new(alloc);
+    assert_eq!(rt;
+        book.commit(&7, entry(alloc, 0, true, 7)?)?,
+        Committed::Kept { place: 1 }
+    );
+    assert_eq!(rt;
+        book.commit(&7, entry(alloc, 1, true, 7)?)?,
+        Committed::Dropped { place: 2, by: 1 }
+    );
+    assert_eq!(rt;
+        book.commit(&8, entry(alloc, 0, false, 9)?)?,
+        Committed::Kept { place: 3 }
+    );
+    assert_eq!(rt;
+        book.commit(&8, entry(alloc, 1, false, 9)?)?,
+        Committed::Kept { place: 4 }
+    );
+    assert_eq!(rt; book.facts(), 3);
+    assert_eq!(rt; book.entries().len(), 4);
+    assert!(rt; book.verdict(&8).is_none());
+    assert_eq!(rt;
+        book.verdict(&7),
+        Some((
+            1,
+            &Mark {
+                settling: true,
+                number: 7
+            }
+        ))
+    );
+    assert_eq!(rt;
+        book.fact(3),
+        Some(&Mark {
+            settling: false,
+            number: 9
+        })
+    );
+    assert!(rt; book.fact(4).is_none());
+    Ok(())
+}
+
+#[test]
+fn hands_out_models(rt: HostRuntime) -> Result<(), Fail> {
+    let alloc = rt.alloc();
+    let mut book: Book<Mark> = Book::new(alloc);
+    for (settling, number) in [(false, 9), (false, 5), (false, 9), (true, 7)] {
+        book.commit(&7, entry(alloc, 0, settling, number)?)?;
+    }
+    let copied = book.copy(alloc)?;
+    for (after, most, upto, count) in [
+        (0, 64, 4, 2),
+        (0, 1, 1, 1),
+        (1, 1, 3, 1),
+        (1, 0, 1, 0),
+        (9, 2, 9, 0),
+    ] {
+        let found = copied.models(alloc, &9, after, most)?;
+        assert_eq!(rt;
+            (found.from, found.upto, found.records.as_slice().len()),
+            (after, upto, count)
+        );
+    }
+    Ok(())
+}

@@ -1,0 +1,4 @@
+pub mod Sounds
+pub mod Stops
+pub mod Third
+pub mod Turn

@@ -1,0 +1,14 @@
+//! What a search is to those that run it: turns for a number of units, each with an end that has its
+//! cause.
+#![tactic(auto)]
+
+mod outcome;
+mod searcher;
+mod stop;
+
+pub use outcome::{Limit, Outcome, TurnEnd};
+pub use searcher::Searcher;
+pub use stop::{Stop, known_verdict};
+
+#[cfg(test)]
+mod tests;

@@ -1,0 +1,6 @@
+pub mod Counts
+pub mod Events
+pub mod Inserts
+pub mod Legality
+pub mod Pairs
+pub mod Thirds
