@@ -75,7 +75,7 @@ lies_product group members u v h k = record {
   factors = h.factors ++ k.factors;
   there = there_append members h.factors k.factors h.there k.there;
   same = subst (λ (t : List ℤ). Same group t (u ++ v)) (sym (product_append members h.factors k.factors))
-    (Same-append group.generators group.relators (product members h.factors) u (product members k.factors) v h.same k.same);
+      (Same-append group.generators group.relators (product members h.factors) u (product members k.factors) v h.same k.same);
 }
 
 pub lies_inverse : (group : Group) (members : List (List ℤ)) (u : List ℤ) → Lies group members u → Lies group members (inv u)
@@ -83,7 +83,7 @@ lies_inverse group members u h = record {
   factors = turned h.factors;
   there = turned_there members h.factors h.there;
   same = subst (λ (t : List ℤ). Same group t (inv u)) (sym (product_turned members h.factors))
-    (Same-inv group.generators group.relators (product members h.factors) u h.same);
+      (Same-inv group.generators group.relators (product members h.factors) u h.same);
 }
 
 -- without members what lies is the same as the empty word
@@ -112,6 +112,6 @@ quotient_of_same group u v over one =
     let m : ℕ = group.generators in
     let rs : List (List ℤ) = group.relators in
     let back : Same group ((u ++ inv v) ++ v) u =
-        Same-trans m rs ((u ++ inv v) ++ v) (u ++ (inv v ++ v)) u (Same-equal m rs _ _ (append_assoc u (inv v) v))
-        (subst (λ (t : List ℤ). Same m rs (u ++ (inv v ++ v)) t) (append-nil u) (Same-before m rs u (inv v ++ v) [] (Same-inverse_times m rs v over))) in
+    Same-trans m rs ((u ++ inv v) ++ v) (u ++ (inv v ++ v)) u (Same-equal m rs _ _ (append_assoc u (inv v) v))
+    (subst (λ (t : List ℤ). Same group (u ++ (inv v ++ v)) t) (append-nil u) (Same-before m rs u (inv v ++ v) [] (Same-inverse_times m rs v over))) in
     Same-trans m rs u ((u ++ inv v) ++ v) v (Same-sym m rs ((u ++ inv v) ++ v) u back) (Same-after m rs v (u ++ inv v) [] one)
