@@ -5,6 +5,7 @@
 mod buffers;
 mod checker;
 mod derivation;
+mod laws;
 mod numbering;
 mod search;
 mod symbol;
@@ -12,6 +13,7 @@ mod symbol;
 pub use buffers::Buffers;
 pub use checker::accepts;
 pub use derivation::Derivation;
+pub use laws::accepted_derivations_hold;
 pub use mg_words::NoMemory;
 pub use numbering::{symbol_count, symbol_of, symbols_at, texts_and_numbers_correspond};
 pub use search::{Advance, Enumeration};

@@ -3,11 +3,16 @@
 #![tactic(auto)]
 
 mod ask;
+mod gen_map;
 mod laws;
 mod presentation;
 
 pub use ask::{Ask, MOST_GOALS, MOST_SUBGROUP_WORDS};
-pub use laws::equal_asks_are_one;
+pub use gen_map::GenMap;
+pub use laws::{
+    equal_asks_are_one, sameness_is_an_equivalence, sameness_is_kept, subgroups_are_closed,
+    words_are_the_same,
+};
 pub use mg_words::NoMemory;
 pub use presentation::{MOST_GENERATORS, MOST_RELATOR_LETTERS, MOST_RELATORS, Presentation, fits};
 
