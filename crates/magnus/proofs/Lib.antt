@@ -1,0 +1,12 @@
+pub mod Runs
+pub mod FormWords
+pub mod FormLists
+pub mod FormReduced
+pub mod Turns
+pub mod Sessions
+pub mod Rows
+pub mod States
+pub mod Settling
+pub mod Enumerator
+pub mod Reaching
+pub mod Answered

@@ -1,0 +1,22 @@
+-- What a log records about groups: verdicts with their certificates, and models.
+use Rattle.std.specs.Prelude.{ℕ, List}
+use Rattle.mg_present.specs.Presentation.{Group}
+use Rattle.mg_present.specs.Ask.{Inquiry}
+use Rattle.mg_derive.specs.declared.symbol.Symbol.{Symbol}
+
+-- a certificate that each goal lies in the subgroup
+pub data Affirmation : Type 0 where
+  derivation : List Symbol → Affirmation
+
+-- a model of a group that can refute goals: there is no kind yet
+pub data Model : Type 0 where
+
+-- the goals lie, or the goal at a place from 0 does not
+pub data Verdict : Type 0 where
+  affirmed : Affirmation → Verdict
+  refuted : (goal : ℕ) → Model → Verdict
+
+-- what a record says: an Ask is settled by a verdict, or a model is one of a group
+pub data Fact : Type 0 where
+  settled : Inquiry → Verdict → Fact
+  model_of : Group → Model → Fact

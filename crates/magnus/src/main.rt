@@ -1,0 +1,62 @@
+//! The Magnus workbench: reads a session script on standard input, searches for an answer to its
+//! question about a finitely presented group, and prints a report whose answers can be checked again.
+#![tactic(auto)]
+
+mod form;
+mod gate;
+mod laws;
+mod report;
+mod session;
+mod status;
+mod top;
+
+pub use form::{FormRefused, Script, read_form};
+pub use gate::{Gate, NoGate};
+pub use laws::{
+    runs_stay_within_reach, states_are_in_order, states_are_searched, the_first_number_settles,
+    verdicts_carry_certificates,
+};
+use mg_io::{InputSource, OutputSink};
+pub use report::{QuestionBlock, SearchLine, report};
+pub use session::run_script;
+pub use status::{MOST_SCRIPT_BYTES, Status, code};
+use std::process::ExitCode;
+use std::rt::Env;
+use std::sync::Wait;
+use std::thread::Threads;
+use std::{env, io};
+pub use top::magnus;
+
+#[cfg(test)]
+mod tests;
+
+fn main(rt: HostRuntime) -> ExitCode {
+    ExitCode::from(code(&run(&rt)))
+}
+
+/// Calls the top call on the command words, standard input and standard output. Words that are no
+/// text are words that the program doesn't know.
+fn run<R: Env + Input + Print + AllocGlobal + Threads + Wait + Sync>(rt: &R) -> Status {
+    let Ok(args) = env::args(rt) else {
+        return Status::NotBuilt { line: 0 };
+    };
+    let Ok(args) = args.skip(1).collect::<Vec<String>>(rt.alloc()) else {
+        return Status::NoMemory;
+    };
+    let mut words = Vec::new(rt.alloc());
+    for word in &args {
+        if words.push(word.as_str()).is_err() {
+            return Status::NoMemory;
+        }
+    }
+    let mut source = InputSource::new(rt.reader());
+    let mut sink = OutputSink::new(io::writer(rt));
+    magnus(
+        rt,
+        rt.alloc(),
+        words.as_slice(),
+        &mut source,
+        &mut sink,
+        &NoGate,
+    )
+}

@@ -1,0 +1,88 @@
+use super::*;
+use mg_io::{MemorySink, MemorySource};
+use std::sync::Wait;
+use std::test::Fail;
+use std::thread::Threads;
+
+const SQUARE: &[u8] =
+    b"group G = < a | a^2 >\nask q : a^2 = 1 in G\nfund 100\ngrant q derive 21\nrun\nreport\n";
+
+/// The status and what was written, where the source fails at some reads and the sink, which takes at
+/// most so many bytes a call, at some writes.
+fn run_on<R: AllocGlobal + Threads + Wait + Sync>(
+    rt: &R,
+    script: &[u8],
+    failing_reads: &[u64],
+    most: usize,
+    failing_writes: &[u64],
+) -> Result<(Status, Vec<u8>), Fail>
+    requires { 1 ≤ most }
+{
+    let alloc = rt.alloc();
+    let bytes = Vec::from_slice(alloc, script)?;
+    let mut source = MemorySource::new(alloc, bytes, 4096, Vec::from_slice(alloc, failing_reads)?);
+    let mut sink = MemorySink::new(alloc, most, Vec::from_slice(alloc, failing_writes)?);
+    let status = magnus(rt, alloc, &["run"], &mut source, &mut sink, &NoGate);
+    Ok((status, Vec::from_slice(alloc, sink.taken())?))
+}
+
+#[test]
+fn scripts_give_their_outputs(rt: HostRuntime) -> Result<(), Fail> {
+    for (script, output) in [
+        (
+            SQUARE,
+            b"report\nfunded 100 purse 79\nquestion q YES fact 1\ngroup < a | a^2 >\nsubgroup < >\ngoals < a^2 >\nyes derivation r1 ;\nsearch derive granted 21 spent 21 held 0 returned 0 end found\nend\n".as_slice(),
+        ),
+        (
+            b"group G = < a | a^2 >\nask q : a^2 = 1 in G\nfund 100\ngrant q derive 20\nrun\nreport\n".as_slice(),
+            b"report\nfunded 100 purse 80\nquestion q OPEN\ngroup < a | a^2 >\nsubgroup < >\ngoals < a^2 >\nsearch derive granted 20 spent 20 held 0 returned 0 end more\nend\n".as_slice(),
+        ),
+        (
+            b"group G = < a, b | a^2 >\nask q : b a^2 b^-1 = 1 in G\nfund 1310\ngrant q derive 1310\nrun\nreport\n".as_slice(),
+            b"report\nfunded 1310 purse 0\nquestion q YES fact 1\ngroup < a , b | a^2 >\nsubgroup < >\ngoals < b a^2 b^-1 >\nyes derivation b r1 b^-1 ;\nsearch derive granted 1310 spent 1310 held 0 returned 0 end found\nend\n".as_slice(),
+        ),
+        (
+            b"group G = < a | a^2 >\nask q : a^2 = 1 in G\nfund 5\ngrant q derive 0\nrun\nreport\n".as_slice(),
+            b"report\nfunded 5 purse 5\nquestion q OPEN\ngroup < a | a^2 >\nsubgroup < >\ngoals < a^2 >\nsearch derive granted 0 spent 0 held 0 returned 0 end fresh\nend\n".as_slice(),
+        ),
+    ] {
+        let (status, taken) = run_on(&rt, script, &[], 4096, &[])?;
+        assert_eq!(rt; status, Status::Done);
+        assert_eq!(rt; taken.as_slice(), output);
+    }
+    Ok(())
+}
+
+#[test]
+fn another_form_is_not_built(rt: HostRuntime) -> Result<(), Fail> {
+    let script =
+        b"group G = < a >\nask q : a^2 = 1 in G\nfund 100\ngrant q derive 21\nrun\nreport\n";
+    let (status, taken) = run_on(&rt, script, &[], 4096, &[])?;
+    assert_eq!(rt; status, Status::NotBuilt { line: 0 });
+    assert_eq!(rt; taken.len(), 0);
+    Ok(())
+}
+
+#[test]
+fn faults_are_told(rt: HostRuntime) -> Result<(), Fail> {
+    let (status, taken) = run_on(&rt, SQUARE, &[1], 4096, &[])?;
+    assert_eq!(rt; status, Status::ReadFault);
+    assert_eq!(rt; taken.len(), 0);
+    let (status, taken) = run_on(&rt, SQUARE, &[], 10, &[1])?;
+    assert_eq!(rt; status, Status::WriteFault);
+    assert_eq!(rt; taken.as_slice(), b"report\nfun".as_slice());
+    Ok(())
+}
+
+#[test]
+fn statuses_have_their_exits(rt: HostRuntime) {
+    for (status, exit) in [
+        (Status::Done, 0),
+        (Status::ReadFault, 1),
+        (Status::WriteFault, 1),
+        (Status::NoMemory, 4),
+        (Status::NotBuilt { line: 0 }, 6),
+    ] {
+        assert_eq!(rt; code(&status), exit);
+    }
+}
