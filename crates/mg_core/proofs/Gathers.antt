@@ -1,12 +1,11 @@
 -- Lemmas on gathering the models of a group.
 use Rattle.std.proofs.Common.{◌≡◌, ◌≢◌, ℕ, ◌+◌, ◌<◌, ◌≤◌, ◌⊎◌, inl, inr, max, true, false, nat_le, cond, List, [], ◌∷◌, ◌++◌, length, map, take, drop, Option, Some, None, Ordering, refl, ap, sym, ◌∙◌, subst, arith, append-nil, append_assoc, length-append}
-use Rattle.std.specs.Prelude.{slice_get}
 use Rattle.std.specs.Cmp.{IsTotalOrder}
 use Rattle.std.specs.declared.cmp.Ordering.TheVariants.{Less, Equal, Greater}
 use Rattle.std.proofs.lemmas.Bool.{cases_lt}
 use Rattle.std.proofs.lemmas.Bool.Decides.{nat_tests}
 use Rattle.std.proofs.lemmas.Cmp.{tied_itself}
-use Rattle.std.proofs.lemmas.List.{length_push, take_all, take_at, map-append, drop_all}
+use Rattle.std.proofs.lemmas.List.{length_push, take_all, take_at, map-append}
 use Rattle.mg_core.specs.declared.entries.Entry.{Entry}
 use Rattle.mg_core.specs.declared.entries.Facts.{Facts}
 use Rattle.mg_core.specs.Log.{facts_of, ModelsFrom, ModelsAbove, last_number, Handed}

@@ -1,5 +1,5 @@
 -- Turns of searches, over any kind of search and of record.
-use Rattle.std.specs.Prelude.{◌≡◌, ◌≢◌, ℕ, ◌+◌, ◌<◌, ◌≤◌, ◌⊎◌, Bool, true, false, Option, Some, None, List, [], ◌∷◌, length, IsSome, IsTrue}
+use Rattle.std.specs.Prelude.{◌≡◌, ℕ, ◌+◌, ◌≤◌, Bool, true, false, Option, Some, List, [], ◌∷◌, length, IsSome}
 use Rattle.std.specs.List.{AllByRecursion}
 use Rattle.mg_core.specs.declared.entries.Facts.{Facts}
 use Rattle.mg_turn.specs.declared.outcome.Outcome.{Outcome}

@@ -2,6 +2,7 @@
 //! cause.
 #![tactic(auto)]
 
+pub mod example;
 mod outcome;
 mod searcher;
 mod stop;

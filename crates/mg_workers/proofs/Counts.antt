@@ -1,18 +1,17 @@
 -- Lemmas on how many units and entries a run puts into the log.
-use Rattle.std.proofs.Common.{◌≡◌, ◌≢◌, ℕ, zero, suc, ◌+◌, ◌*◌, ◌<◌, ◌≤◌, Bool, true, false, cond, not, ◌&&◌, ◌||◌, ◌==◌, List, [], ◌∷◌, ◌++◌, Some, length, set, refl, ap, sym, ◌∙◌, subst, arith, append-nil, append_assoc, length-append, add-zero}
+use Rattle.std.proofs.Common.{◌≡◌, ◌≢◌, ℕ, zero, suc, ◌+◌, ◌*◌, ◌≤◌, Bool, true, false, cond, not, ◌&&◌, ◌||◌, ◌==◌, List, [], ◌∷◌, ◌++◌, Some, length, set, refl, ap, sym, ◌∙◌, subst, arith, append-nil, append_assoc, length-append, add-zero}
 use Rattle.std.proofs.Math.Nat.{mul-suc}
 use Rattle.std.specs.Prelude.{slice_get}
 use Rattle.std.specs.List.{AllByRecursion}
 use Rattle.std.proofs.lemmas.Bool.Decides.{nat_tests}
 use Rattle.mg_core.specs.declared.entries.Entry.{Entry}
 use Rattle.mg_core.specs.declared.entries.Facts.{Facts}
-use Rattle.mg_turn.specs.declared.outcome.Outcome.{Outcome}
 use Rattle.mg_turn.specs.declared.outcome.TurnEnd.{TurnEnd}
 use Rattle.mg_turn.specs.declared.outcome.TurnEnd.TheVariants.{More, Found, Closed, Idle, Stopped, Full}
-use Rattle.mg_turn.specs.Turn.{Recording, Searching, Sound, IsSound, EndFits, is_stopped}
-use Rattle.mg_workers.specs.Run.{Row, Running, Begins, entry_of, row_after, end_after, leaves_at, Event, Leads, Runs}
+use Rattle.mg_turn.specs.Turn.{Recording, Searching, Sound, EndFits, is_stopped}
+use Rattle.mg_workers.specs.Run.{Row, Running, entry_of, row_after, end_after, leaves_at}
 use Rattle.mg_workers.specs.Rows.{EachPair, AreApart, units_of, entries_of, total_spent}
-use Rattle.mg_workers.proofs.Pairs.{all_at, all_along, all_imply, pairs_same, pairs_then, pairs_imply, pairs_set, Others}
+use Rattle.mg_workers.proofs.Pairs.{all_at, all_along, pairs_same, pairs_then, pairs_imply, pairs_set, Others}
 use Rattle.mg_workers.proofs.Events.{event_sound, Happens, LeadsBy, Run}
 
 -- how often a row may still put an entry without units into the log

@@ -1,10 +1,10 @@
 -- Lemmas that a row more, of a search that takes no part, changes nothing of a run.
-use Rattle.std.proofs.Common.{◌≡◌, ℕ, zero, suc, ◌+◌, ◌⊎◌, inl, true, List, [], ◌∷◌, ◌++◌, Some, map, set, refl, ap, sym, ◌∙◌, subst}
+use Rattle.std.proofs.Common.{◌≡◌, ℕ, zero, suc, ◌⊎◌, inl, true, List, [], ◌∷◌, Some, map, set, refl, ap, ◌∙◌}
 use Rattle.std.specs.Prelude.{slice_get, insert}
 use Rattle.std.specs.List.{AllByRecursion}
 use Rattle.mg_core.specs.declared.entries.Entry.{Entry}
 use Rattle.mg_turn.specs.Turn.{Recording, Searching}
-use Rattle.mg_workers.specs.Run.{Row, Running, row_after, Event, Leads, Runs, Finished}
+use Rattle.mg_workers.specs.Run.{Row, Running, row_after, Finished}
 use Rattle.mg_workers.specs.Rows.{with_row}
 use Rattle.mg_workers.proofs.Events.{Happens, LeadsBy, Run}
 

@@ -1,5 +1,5 @@
 -- Lemmas that runs keep logs legal.
-use Rattle.std.proofs.Common.{◌≡◌, ℕ, Bool, true, false, cond, List, [], ◌∷◌, ◌++◌, Option, Some, None, IsSome, IsNone, IfSome, refl, ap, sym, ◌∙◌, subst}
+use Rattle.std.proofs.Common.{◌≡◌, ℕ, Bool, true, false, cond, List, [], ◌∷◌, Option, Some, None, IsSome, IsNone, IfSome, refl, ap, sym, ◌∙◌, subst}
 use Rattle.std.specs.List.{AllByRecursion}
 use Rattle.mg_core.specs.declared.entries.Entry.{Entry}
 use Rattle.mg_core.specs.declared.entries.Facts.{Facts}
@@ -8,7 +8,7 @@ use Rattle.mg_core.proofs.Logs.{legal-join}
 use Rattle.mg_turn.specs.declared.outcome.TurnEnd.{TurnEnd}
 use Rattle.mg_turn.specs.declared.outcome.TurnEnd.TheVariants.{More, Found, Closed, Idle, Stopped, Full}
 use Rattle.mg_turn.specs.Turn.{Recording, Searching, Sound, EndFits, AreModels, Settles, records_of}
-use Rattle.mg_workers.specs.Run.{Row, Running, entry_of, Leads, Runs}
+use Rattle.mg_workers.specs.Run.{Row, Running, entry_of}
 use Rattle.mg_workers.specs.Rows.{EachPair, Keeps, AreFunded, AreAsked}
 use Rattle.mg_workers.proofs.Pairs.{all_at, all_along}
 use Rattle.mg_workers.proofs.Events.{event_sound, event_keeps, still_funded, Happens, LeadsBy, Run}

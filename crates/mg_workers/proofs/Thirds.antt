@@ -4,7 +4,6 @@ use Rattle.std.specs.Prelude.{slice_get}
 use Rattle.std.specs.List.{AllByRecursion}
 use Rattle.std.proofs.lemmas.Bool.Decides.{nat_tests}
 use Rattle.mg_core.specs.declared.entries.Entry.{Entry}
-use Rattle.mg_core.specs.declared.entries.Facts.{Facts}
 use Rattle.mg_core.specs.Log.{facts_of, Settled}
 use Rattle.mg_core.proofs.Logs.{facts_of-append}
 use Rattle.mg_turn.specs.declared.outcome.TurnEnd.{TurnEnd}
@@ -13,7 +12,7 @@ use Rattle.mg_turn.specs.Turn.{Recording, records_of, goes_on}
 use Rattle.mg_turn.specs.Third.{Third, ThirdEnd, third}
 use Rattle.mg_workers.specs.declared.held.End.{End}
 use Rattle.mg_workers.specs.declared.held.End.TheVariants as ends
-use Rattle.mg_workers.specs.Run.{Row, Running, entry_of, row_after, end_after, leaves_at, Event, Leads, Runs, Finished}
+use Rattle.mg_workers.specs.Run.{Row, Running, entry_of, row_after, end_after, leaves_at, Finished}
 use Rattle.mg_workers.specs.Examples.{third_with}
 use Rattle.mg_workers.proofs.Events.{Happens, LeadsBy, Run}
 

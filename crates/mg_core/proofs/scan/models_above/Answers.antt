@@ -1,4 +1,4 @@
-use Rattle.std.proofs.Common.{◌≡◌, ◌≢◌, ℕ, ◌+◌, ◌≤◌, ◌<◌, ◌⊎◌, inl, inr, ◌∷◌, [], ◌++◌, Some, drop, max, ap, sym, ◌∙◌, subst, refl, rules, arith}
+use Rattle.std.proofs.Common.{◌≡◌, ◌≢◌, ℕ, ◌+◌, ◌≤◌, ◌⊎◌, inl, inr, ◌∷◌, [], ◌++◌, Some, ap, sym, ◌∙◌, subst, refl, rules, arith}
 use Rattle.mg_core.specs.declared.entries.Facts.{Facts}
 use Rattle.mg_core.specs.Log.{facts_of}
 use Rattle.mg_core.proofs.Scans.{drop_next}

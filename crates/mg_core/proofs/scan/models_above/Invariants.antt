@@ -1,4 +1,4 @@
-use Rattle.std.proofs.Common.{◌≡◌, ◌≤◌, ◌-◌, drop, length}
+use Rattle.std.proofs.Common.{◌≡◌, ◌≤◌, drop, length}
 use Rattle.mg_core.specs.Log.{facts_of}
 use Rattle.mg_core.proofs.Gathers.{Gathered}
 use Rattle.mg_core.proofs.scan.models_above.Given as goal

@@ -1,6 +1,5 @@
 use Rattle.std.proofs.Common.{◌≡◌, ◌+◌, true, false, [], ◌∷◌, ◌++◌, length, ap, ◌∙◌, rules}
 use Rattle.std.specs.List.{AllByRecursion}
-use Rattle.mg_core.specs.Book.{IsCounted}
 use Rattle.mg_core.proofs.Scans.{counted_dropped, counted_kept}
 use Rattle.mg_core.proofs.book.Book.append.Goals as goal
 use Rattle.mg_core.proofs.book.Book.append.Goals.{then-entry, else-entry}
