@@ -89,12 +89,12 @@ split_lies ask front back goal hf hb of_group members vanish write =
     let v : List ℤ = written_out ask back in
     let u : List ℤ = letters_alone front in
     let letters : letters_alone (front ++ back) ≡ u =
-        flat_map-append letter_of front back ∙ (ap (λ t. u ++ t) (back_has_no_letters back members) ∙ append-nil u) in
+    flat_map-append letter_of front back ∙ (ap (λ t. u ++ t) (back_has_no_letters back members) ∙ append-nil u) in
     let gone : Same m rs u [] = Same-from_free m rs u [] (subst (λ (t : List ℤ). FreelyEqual m t []) letters vanish) in
     let front_gone : Same m rs w [] = Same-trans m rs w u [] (front_is_letters ask front hf of_group) gone in
     let rest : Same m rs (w ++ v) v = Same-after m rs v w [] front_gone in
     let whole : Same m rs (w ++ v) goal =
-        subst (λ (t : List ℤ). Same m rs t goal) (flat_map-append (word_of ask) front back) (Same-from_free m rs (written_out ask (front ++ back)) goal write) in
+    subst (λ (t : List ℤ). Same m rs t goal) (flat_map-append (word_of ask) front back) (Same-from_free m rs (written_out ask (front ++ back)) goal write) in
     record {
       factors = factors_of back;
       there = factors_there ask back hb members;
@@ -116,9 +116,10 @@ parts_lie ask [] [] h order vanish write = tt
 parts_lie ask [] (goal ∷ goals) h order vanish write = absurd write
 parts_lie ask (part ∷ parts) [] h order vanish write = absurd write
 parts_lie ask (part ∷ parts) (goal ∷ goals) h order vanish write =
-    let rest : List Symbol = flat_map (λ (p : List Symbol). p ++ Cut ∷ []) parts in
-    (part_lies ask part goal (all_left (IsSymbolOf ask) part (Cut ∷ []) (all_left (IsSymbolOf ask) (part ++ Cut ∷ []) rest h)) order.0 vanish.0 write.0,
-    parts_lie ask parts goals (all_right (IsSymbolOf ask) (part ++ Cut ∷ []) rest h) order.1 vanish.1 write.1)
+    let rest : List Symbol = flat_map (λ (p : List Symbol). p ++ Cut ∷ []) parts in (
+      part_lies ask part goal (all_left (IsSymbolOf ask) part (Cut ∷ []) (all_left (IsSymbolOf ask) (part ++ Cut ∷ []) rest h)) order.0 vanish.0 write.0,
+      parts_lie ask parts goals (all_right (IsSymbolOf ask) (part ++ Cut ∷ []) rest h) order.1 vanish.1 write.1,
+    )
 
 -- each goal of an accepted text lies in the subgroup
 pub accepted_holds : (ask : Inquiry) (text : List Symbol) → IsAccepted ask text → Holds ask
