@@ -1,7 +1,7 @@
 -- How accepted texts end, and the search through all texts.
-use Rattle.std.proofs.Common.{◌≡◌, ◌≢◌, ℕ, zero, suc, ◌+◌, ◌-◌, ◌*◌, ◌^◌, ◌<◌, ◌≤◌, Bool, true, false, ℤ, List, [], ◌∷◌, ◌++◌, length, map, get_or, refl, sym, ap, subst, ◌∙◌, ◌⊎◌, inl, inr, append_assoc, arith, Some, zero-add, eq-eqb}
+use Rattle.std.proofs.Common.{◌≡◌, ◌≢◌, ℕ, suc, ◌+◌, ◌-◌, ◌^◌, ◌<◌, ◌≤◌, Bool, true, false, ℤ, List, [], ◌∷◌, ◌++◌, length, map, get_or, refl, sym, ap, subst, ◌∙◌, ◌⊎◌, inl, inr, append_assoc, arith, Some, zero-add, eq-eqb}
 use Rattle.std.specs.List.{AllByRecursion, flat_map}
-use Rattle.std.proofs.lemmas.List.{length-append, length-map, map-append, get_or_at, append-nil, nil_from_length}
+use Rattle.std.proofs.lemmas.List.{length-append, length-map, map-append, get_or_at, append-nil}
 use Rattle.std.specs.Prelude.{◌↔◌, ◌==◌, if◌then◌else◌, IsTrue, slice_get}
 use Rattle.std.proofs.lemmas.Bool.{cases_lt, false≢true}
 use Rattle.std.proofs.lemmas.Bool.Decides.{nat_tests}
@@ -14,7 +14,7 @@ use Rattle.mg_words.proofs.Chains.{Same-equal}
 use Rattle.mg_present.specs.Ask.{Inquiry, IsAsked, IsReducedOver}
 use Rattle.mg_derive.specs.declared.symbol.Symbol.{Symbol}
 use Rattle.mg_derive.specs.declared.symbol.Symbol.TheVariants.{Letter, Relator, Member, Cut}
-use Rattle.mg_derive.specs.Symbols.{IsSymbolOf, digit_of, symbol_count, word_of, letter_of, written_out, letters_alone}
+use Rattle.mg_derive.specs.Symbols.{IsSymbolOf, digit_of, symbol_count, written_out, letters_alone}
 use Rattle.mg_derive.specs.Acceptance.{IsInOrder, Vanishes, Write, IsAccepted, IsNumbered, AcceptedAt}
 use Rattle.mg_derive.specs.Room.{Room, HasRoom}
 use Rattle.mg_derive.specs.Search.{HasRoomForAll}

@@ -1,10 +1,8 @@
 -- Reading a text once, symbol by symbol, with two reduced words: that this accepts exactly the accepted texts.
-use Rattle.std.proofs.Common.{◌≡◌, ◌≢◌, ℕ, zero, suc, ◌+◌, ◌-◌, ◌<◌, ◌≤◌, Bool, true, false, ℤ, List, [], ◌∷◌, ◌++◌, length, get_or, drop, refl, sym, ap, subst, ◌∙◌, ◌⊎◌, inl, inr, append_assoc, arith}
+use Rattle.std.proofs.Common.{◌≡◌, ℕ, zero, suc, ◌-◌, ◌<◌, Bool, true, false, ℤ, List, [], ◌∷◌, ◌++◌, length, get_or, drop, refl, sym, ap, subst, ◌∙◌, append_assoc, arith}
 use Rattle.std.specs.List.{AllByRecursion, flat_map}
 use Rattle.std.proofs.lemmas.List.{append-nil}
-use Rattle.mg_words.specs.Letter.{IsLetterOf}
-use Rattle.mg_words.specs.Word.{IsOver, IsReduced}
-use Rattle.mg_words.specs.Chain.{FreelyEqual}
+use Rattle.mg_words.specs.Word.{IsOver}
 use Rattle.mg_words.proofs.Free.{free_form, free_form-left, free_form-free_form, free_form-reduced, same_form, freely_from_form, IsOver-free_form}
 use Rattle.mg_words.proofs.Chains.{IsOver-append, IsOver-inv}
 use Rattle.mg_present.specs.Ask.{Inquiry, IsAsked, IsReducedOver}
@@ -13,7 +11,7 @@ use Rattle.mg_present.specs.Same.{signed}
 use Rattle.mg_derive.specs.declared.symbol.Symbol.{Symbol}
 use Rattle.mg_derive.specs.declared.symbol.Symbol.TheVariants.{Letter, Relator, Member, Cut}
 use Rattle.mg_derive.specs.Symbols.{IsSymbolOf, word_of, letter_of, written_out, letters_alone}
-use Rattle.mg_derive.specs.Reading.{Goes, Runs}
+use Rattle.mg_derive.specs.Reading.{Runs}
 use Rattle.mg_derive.specs.Acceptance.{IsOfGroup, IsMember, IsInOrder, Vanishes, Write, IsAccepted}
 
 -- letters and relator signs, and then member signs alone, where the part may have begun before

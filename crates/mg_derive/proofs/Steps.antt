@@ -1,5 +1,5 @@
 -- The steps of the checker's loops.
-use Rattle.std.proofs.Common.{◌≡◌, ◌≢◌, ℕ, ◌+◌, ◌-◌, ◌*◌, ◌<◌, ◌≤◌, Bool, true, false, ℤ, pos, negsuc, List, [], ◌∷◌, ◌++◌, length, get_or, take, drop, map, neg_ℤ, Some, refl, sym, ap, subst, ◌∙◌, append_assoc, arith, eq-eqb, max, reverse, Result, Ok, Err}
+use Rattle.std.proofs.Common.{◌≡◌, ◌≢◌, ℕ, ◌+◌, ◌-◌, ◌*◌, ◌<◌, ◌≤◌, Bool, true, false, ℤ, List, [], ◌∷◌, ◌++◌, length, get_or, take, drop, neg_ℤ, Some, refl, sym, ap, subst, ◌∙◌, append_assoc, arith, eq-eqb, max, reverse, Result, Ok, Err}
 use Rattle.std.specs.Prelude.{◌↔◌, ◌==◌, IsTrue, IfOk, slice_get, nat_abs}
 use Rattle.std.proofs.lemmas.Bool.{false≢true}
 use Rattle.std.proofs.lemmas.Bool.Decides.{Decides-eqb}
@@ -11,15 +11,15 @@ use Rattle.std.proofs.lemmas.List.{append-nil, length-append, length-take, lengt
 use Rattle.std.proofs.Math.Nat.{mul-le-mul_left}
 use Rattle.std.proofs.lemmas.Option.{slice_get_within, get_or_from_slice_get}
 use Rattle.mg_words.specs.Letter.{IsLetterOf, number_of}
-use Rattle.mg_words.specs.Word.{IsReduced, inv}
+use Rattle.mg_words.specs.Word.{IsReduced}
 use Rattle.mg_words.specs.Reduction.{PushesReduced}
 use Rattle.mg_words.proofs.Free.{free_form, free_form-reduced, free_form-length, pushed_onto, pushed_is}
 use Rattle.mg_present.specs.Ask.{Inquiry, IsAsked}
 use Rattle.mg_present.specs.Same.{signed}
 use Rattle.mg_derive.specs.declared.symbol.Symbol.{Symbol}
 use Rattle.mg_derive.specs.declared.symbol.Symbol.TheVariants.{Letter, Relator, Member, Cut}
-use Rattle.mg_derive.specs.Symbols.{IsSymbolOf, word_of, letter_of, written_out, letters_alone}
-use Rattle.mg_derive.specs.Reading.{Goes, Runs}
+use Rattle.mg_derive.specs.Symbols.{IsSymbolOf, word_of, written_out, letters_alone}
+use Rattle.mg_derive.specs.Reading.{Runs}
 use Rattle.mg_derive.specs.Acceptance.{IsAccepted}
 use Rattle.mg_derive.specs.Room.{Room, HasRoom}
 use Rattle.mg_derive.proofs.Parts.{accepted_from_runs, runs_from_accepted}

@@ -1,5 +1,5 @@
 -- The symbols that derivations of an Ask are written in, and their digits.
-use Rattle.std.specs.Prelude.{ℕ, ℤ, pos, negsuc, ◌+◌, ◌-◌, ◌*◌, ◌≤◌, Bool, true, false, List, [], ◌∷◌, ◌++◌, length, slice_index_or}
+use Rattle.std.specs.Prelude.{ℕ, ℤ, pos, negsuc, ◌+◌, ◌-◌, ◌*◌, ◌≤◌, Bool, true, false, List, [], ◌∷◌, length, slice_index_or}
 use Rattle.std.specs.List.{flat_map}
 use Rattle.mg_words.specs.Letter.{IsLetterOf}
 use Rattle.mg_present.specs.Ask.{Inquiry}

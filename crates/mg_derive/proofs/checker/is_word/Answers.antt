@@ -1,4 +1,3 @@
-use Rattle.std.proofs.Common.{◌∙◌, sym, ap, refl}
 use Rattle.mg_words.proofs.Exact.{letters_exact, letters_same}
 use Rattle.mg_derive.proofs.Steps.{equal_from_test, test_from_equal}
 use Rattle.mg_derive.proofs.checker.is_word.Goals as goal

@@ -1,4 +1,4 @@
-use Rattle.std.proofs.Common.{◌≡◌, ◌+◌, ◌≤◌, ◌++◌, [], false, length, drop}
+use Rattle.std.proofs.Common.{◌+◌, ◌≤◌, [], false, length, drop}
 use Rattle.std.specs.Prelude.{◌↔◌}
 use Rattle.mg_words.specs.Word.{IsReduced}
 use Rattle.mg_derive.specs.Symbols.{letters_alone, written_out}

@@ -1,4 +1,4 @@
-use Rattle.std.proofs.Common.{◌≡◌, ◌<◌, [], List, ℤ, false, length, drop, sym, ap, ◌∙◌, arith, rules}
+use Rattle.std.proofs.Common.{◌≡◌, length, drop, sym, ap, ◌∙◌, arith}
 use Rattle.std.specs.Prelude.{slice_get, Some}
 use Rattle.std.proofs.lemmas.List.{length-drop}
 use Rattle.mg_derive.proofs.Steps.{letter_within, letter_taken, cut_taken, cut_refused_letters, cut_refused_goal, empty, not_empty, not_same}

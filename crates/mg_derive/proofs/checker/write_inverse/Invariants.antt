@@ -1,4 +1,4 @@
-use Rattle.std.proofs.Common.{◌≡◌, ◌+◌, ◌≤◌, ◌++◌, length, take, map, neg_ℤ}
+use Rattle.std.proofs.Common.{◌≡◌, ◌≤◌, ◌++◌, map, neg_ℤ}
 use Rattle.mg_words.proofs.Free.{free_form}
 use Rattle.mg_derive.proofs.checker.write_inverse.Given as goal
 

@@ -1,4 +1,4 @@
-use Rattle.std.proofs.Common.{◌≡◌, length, sym, ap, ◌∙◌}
+use Rattle.std.proofs.Common.{length, sym, ap, ◌∙◌}
 use Rattle.std.specs.Prelude.{◌==◌}
 use Rattle.mg_derive.proofs.Ends.{refused_by_last, refused_by_cuts}
 use Rattle.mg_derive.proofs.search.can_be_accepted.Goals as goal

@@ -1,4 +1,4 @@
-use Rattle.std.proofs.Common.{sym, ap, subst, ◌∙◌}
+use Rattle.std.proofs.Common.{◌∙◌}
 use Rattle.mg_derive.proofs.Ends.{room_for_text, refused_text}
 use Rattle.mg_derive.proofs.search.is_accepted.Goals as goal
 

@@ -1,7 +1,6 @@
-use Rattle.std.proofs.Common.{◌≡◌, ℕ, ◌+◌, ◌<◌, ◌∙◌, refl, ap, subst, arith}
+use Rattle.std.proofs.Common.{◌≡◌, ℕ, ◌+◌, ◌∙◌, refl, subst, arith}
 use Rattle.mg_numbers.specs.Plain.{NoneAmong}
 use Rattle.mg_derive.specs.Acceptance.{AcceptedAt}
-use Rattle.mg_derive.specs.declared.search.Advance.TheVariants.{Found}
 use Rattle.mg_derive.proofs.Ends.{finds_first}
 use Rattle.mg_derive.proofs.search.Enumeration.advance.Goals as goal
 

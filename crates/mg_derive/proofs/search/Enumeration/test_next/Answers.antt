@@ -1,5 +1,4 @@
-use Rattle.std.proofs.Common.{◌≡◌, ℕ, ◌+◌, ◌<◌, true, ap, subst, ◌∙◌, arith}
-use Rattle.mg_numbers.specs.Plain.{NoneAmong}
+use Rattle.std.proofs.Common.{◌≡◌, ℕ, ◌+◌, true, ap, subst, ◌∙◌, arith}
 use Rattle.mg_derive.specs.Acceptance.{AcceptedAt}
 use Rattle.mg_derive.proofs.Ends.{none_more, room_for_next}
 use Rattle.mg_derive.proofs.search.Enumeration.test_next.Goals as goal
