@@ -1,0 +1,97 @@
+//! Questions about presented groups.
+ghost use Rattle.std.specs.Prelude.{◌↔◌, IsTrue};
+ghost use Rattle.mg_questions.specs.Asking.{IsGiven};
+
+use mg_present::{GenMap, Presentation};
+use mg_words::{Word, Words, is_over, is_reduced};
+
+/// How many letters a word may have that a question names.
+pub const MOST_WORD_LETTERS: usize = 10_000;
+
+/// A question about one group, or about a map from one group to another. Questions are compared by
+/// their whole content.
+#[derive(Debug, PartialEq, Eq, PartialOrd, Ord, Drop)]
+pub enum Question {
+    /// Whether the word is one in the group.
+    WordIsOne {
+        /// The group.
+        group: Presentation,
+        /// The word.
+        word: Word,
+    },
+    /// Whether the two words are equal in the group.
+    WordsEqual {
+        /// The group.
+        group: Presentation,
+        /// The one word.
+        left: Word,
+        /// The other word.
+        right: Word,
+    },
+    /// Whether the word lies in the subgroup.
+    InSubgroup {
+        /// The group.
+        group: Presentation,
+        /// The words that generate the subgroup.
+        subgroup: Words,
+        /// The word.
+        word: Word,
+    },
+    /// Whether the group has one element alone.
+    Trivial {
+        /// The group.
+        group: Presentation,
+    },
+    /// Whether all elements commute.
+    Abelian {
+        /// The group.
+        group: Presentation,
+    },
+    /// Whether the word commutes with every element.
+    Central {
+        /// The group.
+        group: Presentation,
+        /// The word.
+        word: Word,
+    },
+    /// Whether the subgroup is normal.
+    Normal {
+        /// The group.
+        group: Presentation,
+        /// The words that generate the subgroup.
+        subgroup: Words,
+    },
+    /// Whether the map of generators extends to a homomorphism.
+    Extends {
+        /// The group that is mapped.
+        source: Presentation,
+        /// The group of the images.
+        target: Presentation,
+        /// The images of the generators of the source.
+        map: GenMap,
+    },
+    /// Whether the images generate the whole group.
+    Onto {
+        /// The group of the images.
+        target: Presentation,
+        /// The images.
+        map: GenMap,
+    },
+    /// Whether the image of the word is one.
+    InKernel {
+        /// The group of the images.
+        target: Presentation,
+        /// The images of the letters of the word.
+        map: GenMap,
+        /// The word.
+        word: Word,
+    },
+}
+
+/// Whether a question about a group with this many generators may name the word: it is over them,
+/// reduced and not too long.
+pub fn is_given(generators: u32, w: &Word) -> bool
+    ensures { IsTrue result ↔ IsGiven generators w.now.letters }
+{
+    w.letters().len() <= MOST_WORD_LETTERS && is_over(generators, w) && is_reduced(w)
+}
