@@ -1,7 +1,8 @@
 //! Laws of legal outputs and of sessions. Each stands on a function without a body.
-ghost use Rattle.std.specs.Prelude.{◌≡◌, ℕ, ◌+◌, ◌≤◌, List, Option, Some, IfSome, slice_get};
+ghost use Rattle.std.specs.Prelude.{◌≡◌, ℕ, ◌+◌, ◌≤◌, List, [], Option, Some, IfSome, slice_get};
 ghost use Rattle.std.specs.List.{AllByRecursion};
 ghost use Rattle.mg_core.specs.Log.{Settled};
+ghost use Rattle.mg_present.specs.Same.{Same, Holds};
 ghost use Rattle.mg_numbers.specs.Plain.{First};
 ghost use Rattle.magnus.specs.Plan.{Plan, PlanQuestion};
 ghost use Rattle.magnus.specs.Validity.{Accepted, key_of};
@@ -23,6 +24,22 @@ pub fn states_are_in_order()
 pub fn verdicts_carry_certificates()
     ensures { (plan : Plan) (state : State) (place : ℕ) (question : PlanQuestion) (block : QuestionBlock) →
         StateOk plan state → IsBlock plan state place question block → IfSome block.verdict (λ verdict. Accepted block.ask verdict.1) }
+{}
+
+/// Where a question stands as answered in a report, each of its goals lies in the subgroup of its group.
+pub fn answers_are_true()
+    ensures { (plan : Plan) (state : State) (place : ℕ) (question : PlanQuestion) (block : QuestionBlock) →
+        StateOk plan state → IsBlock plan state place question block → IfSome block.verdict (λ verdict. Holds block.ask) }
+{}
+
+/// Where a legal output has the answer YES, the word of the script, as it is written there, is the same
+/// element as the empty word in the group of the question: relators, their inverses and pairs of inverse
+/// letters, inserted and deleted, lead from one to the other.
+pub fn the_word_is_one()
+    ensures { (script output : List ℕ) (legal : IsOutput script alone output) (place : ℕ) (question : PlanQuestion) →
+        slice_get legal.plan.questions place ≡ Some question →
+        AllByRecursion (λ state. (block : QuestionBlock) → IsBlock legal.plan state place question block →
+        IfSome block.verdict (λ verdict. Same block.ask.group legal.is_form.form.question [])) legal.prints.states }
 {}
 
 /// In a run a search spends no more than it holds and the bound allows.
