@@ -33,6 +33,12 @@ IsFit (Extends source target map) = AreGiven target.generators map × source.gen
 IsFit (Onto target map) = AreGiven target.generators map
 IsFit (InKernel target map word) = AreGiven target.generators map × IsGiven (length map) word.letters
 
+-- goal is the freely reduced form of w, over any generators that w is over
+pub record IsFormOf (w goal : List ℤ) : Type 0 where
+  pub reduced : IsReduced goal
+  pub over : (m : ℕ) → IsOver m w → IsOver m goal
+  pub equal : (m : ℕ) → IsOver m w → FreelyEqual m w goal
+
 -- asks of the group, without subgroup words, one goal alone: the freely reduced form of w
 pub record AsksOne (group : Group) (w : List ℤ) (ask : Inquiry) : Type 0 where
   pub goal : List ℤ

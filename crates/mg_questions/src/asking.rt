@@ -2,7 +2,7 @@
 ghost use Rattle.std.specs.Prelude.{◌≡◌, ◌++◌, IfOk, IfErr};
 ghost use Rattle.mg_words.specs.Word.{IsOver, inv};
 ghost use Rattle.mg_questions.specs.Meaning.{IsWordQuestion};
-ghost use Rattle.mg_questions.specs.Asking.{AsksOne, IsAskOf, IsFit};
+ghost use Rattle.mg_questions.specs.Asking.{AsksOne, IsAskOf, IsFit, IsFormOf};
 
 use crate::question::Question;
 use mg_present::{Ask, Presentation};
@@ -75,6 +75,13 @@ fn one_goal(alloc: Global, group: &Presentation, word: &Word) -> Result<Ask, NoM
     ensures { IfOk result (λ ask. AsksOne group.now word.now.letters ask) }
 {
     let mut goals = Words::new(alloc);
-    goals.push(reduce(alloc, word)?)?;
+    goals.push(goal_of(alloc, word)?)?;
     Ok(Ask::new(group.copy(alloc)?, Words::new(alloc), goals))
+}
+
+// The goal that asks for the word: its freely reduced form.
+fn goal_of(alloc: Global, word: &Word) -> Result<Word, NoMemory>
+    ensures { IfOk result (λ goal. IsFormOf word.now.letters goal.letters) }
+{
+    reduce(alloc, word)
 }
