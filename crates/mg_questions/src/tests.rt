@@ -1,7 +1,7 @@
 //! The Asks of worked questions.
 use super::*;
-use mg_present::{Ask, Presentation};
-use mg_words::{Letter, Word};
+use mg_present::{Ask, GenMap, Presentation};
+use mg_words::{Letter, Word, Words};
 use std::alloc::Global;
 use std::test::Fail;
 
@@ -63,5 +63,35 @@ fn equality_asks_for_the_reduced_quotient(rt: HostRuntime) -> Result<(), Fail> {
     assert!(rt; asks_for(alloc, &[A, B], &[B], &[A])?);
     assert!(rt; asks_for(alloc, &[A], &[A], &[])?);
     assert!(rt; !asks_for(alloc, &[A, A.inverted()], &[A], &[])?);
+    Ok(())
+}
+
+// Whether the question if the word is one in the free group of rank 2 has this goal.
+fn asks_if_one(alloc: Global, word: &[Letter], letters: &[Letter]) -> Result<bool, AskFault> {
+    let group = Presentation::free(alloc, 2);
+    let word = Word::from_letters(alloc, word)?;
+    if !is_given(2, &word) {
+        return Ok(false);
+    }
+    let question = Question::WordIsOne { group, word };
+    let ask = ask_of(alloc, &question)?;
+    Ok(is_goal(&ask, letters))
+}
+
+#[test]
+fn a_word_is_its_own_goal(rt: HostRuntime) -> Result<(), Fail> {
+    assert!(rt; asks_if_one(rt.alloc(), &[A, B], &[A, B])?);
+    Ok(())
+}
+
+#[test]
+fn maps_keep_their_images(rt: HostRuntime) -> Result<(), Fail> {
+    let alloc = rt.alloc();
+    let mut images = Words::new(alloc);
+    images.push(Word::from_letters(alloc, &[A])?)?;
+    let map = GenMap::new(images);
+    let same = map.copy(alloc)?;
+    assert!(rt; same == map);
+    assert_eq!(rt; same.images().len(), 1);
     Ok(())
 }
