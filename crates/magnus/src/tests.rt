@@ -1,3 +1,5 @@
+ghost use Rattle.std.specs.Prelude.{◌≤◌};
+
 use super::*;
 use mg_io::{MemorySink, MemorySource};
 use std::sync::Wait;
@@ -26,51 +28,67 @@ fn run_on<R: AllocGlobal + Threads + Wait + Sync>(
     Ok((status, Vec::from_slice(alloc, sink.taken())?))
 }
 
+const SQUARE_REPORT: &[u8] =
+    b"report\nfunded 100 purse 79\nquestion q YES fact 1\ngroup < a | a^2 >\nsubgroup < >\ngoals < a^2 >\nyes derivation r1 ;\nsearch derive granted 21 spent 21 held 0 returned 0 end found\nend\n";
+
+const TWENTY: &[u8] =
+    b"group G = < a | a^2 >\nask q : a^2 = 1 in G\nfund 100\ngrant q derive 20\nrun\nreport\n";
+
+const TWENTY_REPORT: &[u8] =
+    b"report\nfunded 100 purse 80\nquestion q OPEN\ngroup < a | a^2 >\nsubgroup < >\ngoals < a^2 >\nsearch derive granted 20 spent 20 held 0 returned 0 end more\nend\n";
+
+const CONJUGATE: &[u8] =
+    b"group G = < a, b | a^2 >\nask q : b a^2 b^-1 = 1 in G\nfund 1310\ngrant q derive 1310\nrun\nreport\n";
+
+const CONJUGATE_REPORT: &[u8] =
+    b"report\nfunded 1310 purse 0\nquestion q YES fact 1\ngroup < a , b | a^2 >\nsubgroup < >\ngoals < b a^2 b^-1 >\nyes derivation b r1 b^-1 ;\nsearch derive granted 1310 spent 1310 held 0 returned 0 end found\nend\n";
+
+const NOTHING: &[u8] =
+    b"group G = < a | a^2 >\nask q : a^2 = 1 in G\nfund 5\ngrant q derive 0\nrun\nreport\n";
+
+const NOTHING_REPORT: &[u8] =
+    b"report\nfunded 5 purse 5\nquestion q OPEN\ngroup < a | a^2 >\nsubgroup < >\ngoals < a^2 >\nsearch derive granted 0 spent 0 held 0 returned 0 end fresh\nend\n";
+
+const OTHER_FORM: &[u8] =
+    b"group G = < a >\nask q : a^2 = 1 in G\nfund 100\ngrant q derive 21\nrun\nreport\n";
+
+/// Whether a script ends with this status when these calls fail, and this was written then.
+fn ends<R: AllocGlobal + Threads + Wait + Sync>(
+    rt: &R,
+    script: &[u8],
+    failing_reads: &[u64],
+    failing_writes: &[u64],
+    status: Status,
+    output: &[u8],
+) -> Result<bool, Fail> {
+    let (ended, taken) = run_on(rt, script, failing_reads, 10, failing_writes)?;
+    Ok(ended == status && taken.as_slice() == output)
+}
+
 #[test]
 fn scripts_give_their_outputs(rt: HostRuntime) -> Result<(), Fail> {
-    for (script, output) in [
-        (
-            SQUARE,
-            b"report\nfunded 100 purse 79\nquestion q YES fact 1\ngroup < a | a^2 >\nsubgroup < >\ngoals < a^2 >\nyes derivation r1 ;\nsearch derive granted 21 spent 21 held 0 returned 0 end found\nend\n".as_slice(),
-        ),
-        (
-            b"group G = < a | a^2 >\nask q : a^2 = 1 in G\nfund 100\ngrant q derive 20\nrun\nreport\n".as_slice(),
-            b"report\nfunded 100 purse 80\nquestion q OPEN\ngroup < a | a^2 >\nsubgroup < >\ngoals < a^2 >\nsearch derive granted 20 spent 20 held 0 returned 0 end more\nend\n".as_slice(),
-        ),
-        (
-            b"group G = < a, b | a^2 >\nask q : b a^2 b^-1 = 1 in G\nfund 1310\ngrant q derive 1310\nrun\nreport\n".as_slice(),
-            b"report\nfunded 1310 purse 0\nquestion q YES fact 1\ngroup < a , b | a^2 >\nsubgroup < >\ngoals < b a^2 b^-1 >\nyes derivation b r1 b^-1 ;\nsearch derive granted 1310 spent 1310 held 0 returned 0 end found\nend\n".as_slice(),
-        ),
-        (
-            b"group G = < a | a^2 >\nask q : a^2 = 1 in G\nfund 5\ngrant q derive 0\nrun\nreport\n".as_slice(),
-            b"report\nfunded 5 purse 5\nquestion q OPEN\ngroup < a | a^2 >\nsubgroup < >\ngoals < a^2 >\nsearch derive granted 0 spent 0 held 0 returned 0 end fresh\nend\n".as_slice(),
-        ),
-    ] {
-        let (status, taken) = run_on(&rt, script, &[], 4096, &[])?;
-        assert_eq!(rt; status, Status::Done);
-        assert_eq!(rt; taken.as_slice(), output);
-    }
+    assert!(rt; ends(&rt, SQUARE, &[], &[], Status::Done, SQUARE_REPORT)?);
+    assert!(rt; ends(&rt, TWENTY, &[], &[], Status::Done, TWENTY_REPORT)?);
+    Ok(())
+}
+
+#[test]
+fn all_units_or_none_are_spent(rt: HostRuntime) -> Result<(), Fail> {
+    assert!(rt; ends(&rt, CONJUGATE, &[], &[], Status::Done, CONJUGATE_REPORT)?);
+    assert!(rt; ends(&rt, NOTHING, &[], &[], Status::Done, NOTHING_REPORT)?);
     Ok(())
 }
 
 #[test]
 fn another_form_is_not_built(rt: HostRuntime) -> Result<(), Fail> {
-    let script =
-        b"group G = < a >\nask q : a^2 = 1 in G\nfund 100\ngrant q derive 21\nrun\nreport\n";
-    let (status, taken) = run_on(&rt, script, &[], 4096, &[])?;
-    assert_eq!(rt; status, Status::NotBuilt { line: 0 });
-    assert_eq!(rt; taken.len(), 0);
+    assert!(rt; ends(&rt, OTHER_FORM, &[], &[], Status::NotBuilt { line: 0 }, b"")?);
     Ok(())
 }
 
 #[test]
 fn faults_are_told(rt: HostRuntime) -> Result<(), Fail> {
-    let (status, taken) = run_on(&rt, SQUARE, &[1], 4096, &[])?;
-    assert_eq!(rt; status, Status::ReadFault);
-    assert_eq!(rt; taken.len(), 0);
-    let (status, taken) = run_on(&rt, SQUARE, &[], 10, &[1])?;
-    assert_eq!(rt; status, Status::WriteFault);
-    assert_eq!(rt; taken.as_slice(), b"report\nfun".as_slice());
+    assert!(rt; ends(&rt, SQUARE, &[1], &[], Status::ReadFault, b"")?);
+    assert!(rt; ends(&rt, SQUARE, &[], &[1], Status::WriteFault, b"report\nfun")?);
     Ok(())
 }
 
