@@ -8,6 +8,9 @@ use mg_words::{Word, Words, is_over, is_reduced};
 /// How many letters a word may have that a question names.
 pub const MOST_WORD_LETTERS: usize = 10_000;
 
+/// How many letters a goal may have before it is reduced.
+pub const MOST_GOAL_LETTERS: u64 = 40_000;
+
 /// A question about one group, or about a map from one group to another. Questions are compared by
 /// their whole content.
 #[derive(Debug, PartialEq, Eq, PartialOrd, Ord, Drop)]

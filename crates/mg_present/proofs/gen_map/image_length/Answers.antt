@@ -1,8 +1,8 @@
-use Rattle.std.proofs.Common.{◌≡◌, ◌+◌, ◌≤◌, List, ℤ, length, take, sym, ap, subst, ◌∙◌, arith}
+use Rattle.std.proofs.Common.{◌≡◌, ◌+◌, length, take, ap, ◌∙◌, arith}
 use Rattle.std.proofs.lemmas.List.{take_all, length-take}
 use Rattle.mg_present.specs.Image.{image_of}
 use Rattle.mg_present.specs.declared.gen_map.TheConstants.{MOST_MAPPED_LETTERS}
-use Rattle.mg_present.proofs.Images.{Counts, count_next, image-most}
+use Rattle.mg_present.proofs.Images.{count_next, image-most}
 use Rattle.mg_present.proofs.gen_map.image_length.Goals as goal
 
 -- the sum after one more letter
