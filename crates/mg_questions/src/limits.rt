@@ -4,7 +4,8 @@ ghost use Rattle.std.specs.List.{AllByRecursion};
 ghost use Rattle.mg_words.specs.Word.{letters_of};
 ghost use Rattle.mg_present.specs.Image.{image_of};
 ghost use Rattle.mg_questions.specs.Goals.{goals_of};
-ghost use Rattle.mg_questions.specs.Asking.{AreAllowed, AreGiven, IsFit, IsGiven, IsRefused};
+ghost use Rattle.mg_questions.specs.Asking.{AreAllowed, IsFit, IsGiven, IsRefused};
+ghost use Rattle.mg_questions.specs.declared.question.TheConstants.{MOST_WORD_LETTERS};
 
 use crate::goals::asked_group;
 use crate::question::{MOST_GOAL_LETTERS, Question};
@@ -82,8 +83,8 @@ fn too_long(map: &GenMap, words: &[Word]) -> Option<AskFault>
     ensures { MatchOption result (AreAllowed (map_of (image_of map.now) (letters_of words.now)))
         (λ fault. IsRefused (map_of (image_of map.now) (letters_of words.now)) fault) }
 {
-    for (place, word) in words.iter().enumerate() {
-        let length = image_length(map, word);
+    for place in 0..words.len() {
+        let length = image_length(map, &words[place]);
         if length > MOST_GOAL_LETTERS {
             let goal = place as u32;
             return Some(AskFault::GoalTooLong { goal, length });
