@@ -2,6 +2,7 @@
 use Rattle.std.proofs.Common.{◌≡◌, ℕ, zero, suc, ◌+◌, ◌*◌, ◌<◌, ◌≤◌, ℤ, pos, List, [], ◌∷◌, ◌++◌, map, length, get_or, refl, sym, ap, subst, ◌∙◌, ◌≢◌, MatchOption, None, Some, arith}
 use Rattle.std.specs.Prelude.{Option}
 use Rattle.std.specs.List.{AllByRecursion}
+use Rattle.std.proofs.Math.Nat.{mul-le-mul}
 use Rattle.std.proofs.lemmas.List.{get_or-map, length-append, length-map}
 use Rattle.std.proofs.lemmas.List.Elements.{All-from_get_or, recursion_from_All, All-from_recursion}
 use Rattle.mg_words.specs.Word.{Held, inv, commutator_of, letters_of}
@@ -96,6 +97,9 @@ normal_refusal question group subgroup m k result is fit m_is k_is h =
 one_allowed : (goal : List ℤ) → IsShort goal → AreAllowed (goal ∷ [])
 one_allowed goal short = record { few = omega arith; short = (short, tt) }
 
+generators_few : (m : ℕ) → m ≤ MOST_GENERATORS → length (generators m) ≤ MOST_GENERATORS
+generators_few m few = omega (arith, length-generators m)
+
 generators_allowed : (m : ℕ) → m ≤ MOST_GENERATORS → AreAllowed (generators m)
 generators_allowed m few = record {
   few = omega (arith, length-generators m);
@@ -114,13 +118,10 @@ central_allowed w m few short = record {
 }
 
 abelian_allowed : (m : ℕ) → m ≤ MOST_GENERATORS → AreAllowed (commutators (generators m))
-abelian_allowed m few =
-    let n : length (generators m) ≡ m = length-generators m in
-    let l : length (generators m) ≤ MOST_GENERATORS = omega arith in
-    record {
-      few = ?;
-      short = each_commutator IsShort (λ x. length x ≡ 1) (generators m) (λ u v one other. omega (arith, length-commutator_of u v)) (generators_ones m);
-    }
+abelian_allowed m few = record {
+  few = omega (arith, length-commutators (generators m), length-generators m, mul-le-mul (generators_few m few) (generators_few m few));
+  short = each_commutator IsShort (λ x. length x ≡ 1) (generators m) (λ u v one other. omega (arith, length-commutator_of u v)) (generators_ones m);
+}
 
 -- the other kinds are never refused
 pub never_refused : (question : Question) → IsFit question → (group_of question).generators ≤ MOST_GENERATORS → ((a : Group) (b : List (List ℤ)) → question ≢ Normal a b)

@@ -13,6 +13,10 @@ pub each_more : (P Q : List ℤ → Type 0) (ws : List (List ℤ)) → ((w : Lis
 each_more P Q [] f h = tt
 each_more P Q (w ∷ ws) f h = (f w h.0, each_more P Q ws f h.1)
 
+pub each_any : (P : List ℤ → Type 0) (ws : List (List ℤ)) → ((w : List ℤ) → P w) → Each P ws
+each_any P [] f = tt
+each_any P (w ∷ ws) f = (f w, each_any P ws f)
+
 pub each_both : (P Q : List ℤ → Type 0) (ws : List (List ℤ)) → Each P ws → Each Q ws → Each (λ w. P w × Q w) ws
 each_both P Q [] h k = tt
 each_both P Q (w ∷ ws) h k = ((h.0, k.0), each_both P Q ws h.1 k.1)
