@@ -1,5 +1,5 @@
 -- Questions with too many goals or too long a goal, and those that never have them.
-use Rattle.std.proofs.Common.{◌≡◌, ℕ, zero, suc, ◌+◌, ◌*◌, ◌<◌, ◌≤◌, ℤ, pos, List, [], ◌∷◌, ◌++◌, map, length, get_or, refl, sym, ap, subst, ◌∙◌, ◌≢◌, MatchOption, None, Some, arith}
+use Rattle.std.proofs.Common.{◌≡◌, ℕ, ◌+◌, ◌*◌, ◌<◌, ◌≤◌, ℤ, List, [], ◌∷◌, ◌++◌, map, length, get_or, refl, sym, ap, subst, ◌∙◌, ◌≢◌, MatchOption, None, Some, arith}
 use Rattle.std.specs.Prelude.{Option}
 use Rattle.std.specs.List.{AllByRecursion}
 use Rattle.std.proofs.Math.Nat.{mul-le-mul}
@@ -15,7 +15,7 @@ use Rattle.mg_questions.specs.declared.question.Question.{Question}
 use Rattle.mg_questions.specs.declared.question.Question.TheVariants.{WordIsOne, WordsEqual, InSubgroup, Trivial, Abelian, Central, Normal, Extends, Onto, InKernel}
 use Rattle.mg_questions.specs.declared.question.TheConstants.{MOST_WORD_LETTERS, MOST_GOAL_LETTERS}
 use Rattle.mg_questions.specs.declared.limits.AskFault.{AskFault}
-use Rattle.mg_questions.specs.declared.limits.AskFault.TheVariants.{TooManyGoals, GoalTooLong, NoMemory}
+use Rattle.mg_questions.specs.declared.limits.AskFault.TheVariants.{TooManyGoals}
 use Rattle.mg_questions.specs.Goals.{generators, commutators, conjugates, goals_of, group_of}
 use Rattle.mg_questions.specs.Asking.{IsGiven, AreGiven, IsFit, AreAllowed, AreTooMany, IsFirstTooLong, IsRefused}
 use Rattle.mg_questions.proofs.Forms.{IsAt}

@@ -1,5 +1,5 @@
 -- What questions mean, over all words (Magnus, Karrass and Solitar, 1.2).
-use Rattle.std.specs.Prelude.{◌≡◌, ℤ, List, [], ◌++◌, length}
+use Rattle.std.specs.Prelude.{ℤ, List, [], ◌++◌, length}
 use Rattle.mg_words.specs.Word.{IsOver, inv}
 use Rattle.mg_present.specs.Presentation.{Group}
 use Rattle.mg_present.specs.Same.{Same, Lies}

@@ -5,7 +5,9 @@ ghost use Rattle.mg_words.specs.Reduction.{IsFormOf};
 ghost use Rattle.mg_questions.specs.Goals.{goals_of, group_of, subgroup_of};
 ghost use Rattle.mg_questions.specs.Asking.{IsFit};
 
-use crate::lists::{commutators, conjugates, generators, images, push_commutators, quotient, reduced};
+use crate::lists::{
+    commutators, conjugates, generators, images, push_commutators, quotient, reduced,
+};
 use crate::question::Question;
 use mg_present::Presentation;
 use mg_words::{NoMemory, Words};
@@ -56,7 +58,10 @@ pub(crate) fn asked_goals(alloc: Global, question: &Question) -> Result<Words, N
         }
         Question::InSubgroup { word, .. } => reduced(alloc, slice::from_ref(word)),
         Question::Trivial { .. } => reduced(alloc, letters.as_slice()),
-        Question::Abelian { .. } => reduced(alloc, commutators(alloc, letters.as_slice())?.as_slice()),
+        Question::Abelian { .. } => reduced(
+            alloc,
+            commutators(alloc, letters.as_slice())?.as_slice(),
+        ),
         Question::Central { word, .. } => {
             let mut goals = Words::new(alloc);
             push_commutators(alloc, &mut goals, word, letters.as_slice())?;

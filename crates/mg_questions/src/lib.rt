@@ -13,4 +13,3 @@ pub use laws::asks_keep_the_meaning;
 pub use limits::AskFault;
 pub use mg_words::NoMemory;
 pub use question::{MOST_GOAL_LETTERS, MOST_WORD_LETTERS, Question, is_given};
-

@@ -73,12 +73,7 @@ pub(crate) fn conjugates(alloc: Global, xs: &[Word], hs: &[Word]) -> Result<Word
 }
 
 // Appends the conjugates of the words by `x` and by its inverse.
-fn push_conjugates(
-    alloc: Global,
-    words: &mut Words,
-    x: &Word,
-    hs: &[Word],
-) -> Result<(), NoMemory>
+fn push_conjugates(alloc: Global, words: &mut Words, x: &Word, hs: &[Word]) -> Result<(), NoMemory>
     ensures { OnOk result (words.new ≡ words.old ++ conjugates_by x.now.letters (letters_of hs.now)) }
 {
     let back = inverse(alloc, x)?;

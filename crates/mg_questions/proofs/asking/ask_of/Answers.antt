@@ -1,4 +1,4 @@
-use Rattle.std.proofs.Common.{ap, ◌∙◌}
+use Rattle.std.proofs.Common.{◌∙◌}
 use Rattle.mg_questions.proofs.Asked.{can_ask}
 use Rattle.mg_questions.proofs.asking.ask_of.Goals as goal
 

@@ -1,7 +1,6 @@
-use Rattle.std.proofs.Common.{◌≡◌, ◌≤◌, sym, ap, subst, ◌∙◌, arith}
+use Rattle.std.proofs.Common.{◌≤◌, ap, subst, ◌∙◌}
 use Rattle.mg_present.specs.Presentation.{Group}
 use Rattle.mg_present.specs.declared.presentation.TheConstants.{MOST_GENERATORS}
-use Rattle.mg_questions.specs.declared.question.Question.{Question}
 use Rattle.mg_questions.specs.Goals.{group_of}
 use Rattle.mg_questions.proofs.Bounds.{normal_refusal, never_refused}
 use Rattle.mg_questions.proofs.limits.refusal.Goals as goal

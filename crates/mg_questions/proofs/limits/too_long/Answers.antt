@@ -1,7 +1,7 @@
 use Rattle.std.proofs.Common.{[], length, get_or, ap, arith}
 use borrow.Author.Count.{below_more}
 use Rattle.mg_questions.specs.Asking.{IsGiven}
-use Rattle.mg_questions.proofs.Forms.{IsAt, letters_at}
+use Rattle.mg_questions.proofs.Forms.{letters_at}
 use Rattle.mg_questions.proofs.Bounds.{IsShort, images_of, image_at, first_long, all_short}
 use Rattle.mg_questions.proofs.limits.too_long.Goals as goal
 
