@@ -3,6 +3,7 @@ pub mod Asked
 pub mod Bounds
 pub mod Commuting
 pub mod Conjugation
+pub mod Exact
 pub mod Forms
 pub mod Mapping
 pub mod Tables
