@@ -52,16 +52,34 @@ then_exact P Q f first rest a b u v e =
 abbrev orders : Each Ordering enum.parts
 orders = (
   λ x y. ordering_then (group_cmp x.0 y.0) (word_cmp x.1.0 y.1.0),
-  (λ x y. ordering_then (group_cmp x.0 y.0) (ordering_then (word_cmp x.1.0 y.1.0) (word_cmp x.1.1.0 y.1.1.0)),
-  (λ x y. ordering_then (group_cmp x.0 y.0) (ordering_then (words_cmp x.1.0 y.1.0) (word_cmp x.1.1.0 y.1.1.0)),
-  (λ x y. group_cmp x.0 y.0,
-  (λ x y. group_cmp x.0 y.0,
-  (λ x y. ordering_then (group_cmp x.0 y.0) (word_cmp x.1.0 y.1.0),
-  (λ x y. ordering_then (group_cmp x.0 y.0) (words_cmp x.1.0 y.1.0),
-  (λ x y. ordering_then (group_cmp x.0 y.0) (ordering_then (group_cmp x.1.0 y.1.0) (words_cmp x.1.1.0 y.1.1.0)),
-  (λ x y. ordering_then (group_cmp x.0 y.0) (words_cmp x.1.0 y.1.0),
-  (λ x y. ordering_then (group_cmp x.0 y.0) (ordering_then (words_cmp x.1.0 y.1.0) (word_cmp x.1.1.0 y.1.1.0)),
-  tt))))))))),
+  (
+    λ x y. ordering_then (group_cmp x.0 y.0) (ordering_then (word_cmp x.1.0 y.1.0) (word_cmp x.1.1.0 y.1.1.0)),
+    (
+      λ x y. ordering_then (group_cmp x.0 y.0) (ordering_then (words_cmp x.1.0 y.1.0) (word_cmp x.1.1.0 y.1.1.0)),
+      (
+        λ x y. group_cmp x.0 y.0,
+        (
+          λ x y. group_cmp x.0 y.0,
+          (
+            λ x y. ordering_then (group_cmp x.0 y.0) (word_cmp x.1.0 y.1.0),
+            (
+              λ x y. ordering_then (group_cmp x.0 y.0) (words_cmp x.1.0 y.1.0),
+              (
+                λ x y. ordering_then (group_cmp x.0 y.0) (ordering_then (group_cmp x.1.0 y.1.0) (words_cmp x.1.1.0 y.1.1.0)),
+                (
+                  λ x y. ordering_then (group_cmp x.0 y.0) (words_cmp x.1.0 y.1.0),
+                  (
+                    λ x y. ordering_then (group_cmp x.0 y.0) (ordering_then (words_cmp x.1.0 y.1.0) (word_cmp x.1.1.0 y.1.1.0)),
+                    tt,
+                  ),
+                ),
+              ),
+            ),
+          ),
+        ),
+      ),
+    ),
+  ),
 )
 
 -- a group and a word; a group and a list of words; a group, a list and a word
@@ -90,16 +108,34 @@ two_groups g h k l us vs e =
 exact : Exacts enum.parts orders (λ c. content_of (enum.make c))
 exact = (
   λ x y. group_word WordIsOne x.0 y.0 x.1.0 y.1.0,
-  (λ x y. two_words x.0 y.0 x.1.0 y.1.0 x.1.1.0 y.1.1.0,
-  (λ x y. group_words_word InSubgroup x.0 y.0 x.1.0 y.1.0 x.1.1.0 y.1.1.0,
-  (λ x y e. ap Trivial (group_exact x.0 y.0 e),
-  (λ x y e. ap Abelian (group_exact x.0 y.0 e),
-  (λ x y. group_word Central x.0 y.0 x.1.0 y.1.0,
-  (λ x y. group_words Normal x.0 y.0 x.1.0 y.1.0,
-  (λ x y. two_groups x.0 y.0 x.1.0 y.1.0 x.1.1.0 y.1.1.0,
-  (λ x y. group_words Onto x.0 y.0 x.1.0 y.1.0,
-  (λ x y. group_words_word InKernel x.0 y.0 x.1.0 y.1.0 x.1.1.0 y.1.1.0,
-  tt))))))))),
+  (
+    λ x y. two_words x.0 y.0 x.1.0 y.1.0 x.1.1.0 y.1.1.0,
+    (
+      λ x y. group_words_word InSubgroup x.0 y.0 x.1.0 y.1.0 x.1.1.0 y.1.1.0,
+      (
+        λ x y e. ap Trivial (group_exact x.0 y.0 e),
+        (
+          λ x y e. ap Abelian (group_exact x.0 y.0 e),
+          (
+            λ x y. group_word Central x.0 y.0 x.1.0 y.1.0,
+            (
+              λ x y. group_words Normal x.0 y.0 x.1.0 y.1.0,
+              (
+                λ x y. two_groups x.0 y.0 x.1.0 y.1.0 x.1.1.0 y.1.1.0,
+                (
+                  λ x y. group_words Onto x.0 y.0 x.1.0 y.1.0,
+                  (
+                    λ x y. group_words_word InKernel x.0 y.0 x.1.0 y.1.0 x.1.1.0 y.1.1.0,
+                    tt,
+                  ),
+                ),
+              ),
+            ),
+          ),
+        ),
+      ),
+    ),
+  ),
 )
 
 abbrev question_cmp : Question → Question → Ordering

@@ -6,7 +6,7 @@ ghost use Rattle.mg_questions.specs.Goals.{goals_of, group_of, subgroup_of};
 ghost use Rattle.mg_questions.specs.Asking.{IsFit};
 
 use crate::lists::{
-    commutators, conjugates, generators, images, push_commutators, quotient, reduced,
+    commutators, commutators_with, conjugates, generators, images, quotient, reduced,
 };
 use crate::question::Question;
 use mg_present::Presentation;
@@ -49,7 +49,6 @@ pub(crate) fn asked_goals(alloc: Global, question: &Question) -> Result<Words, N
     requires { IsFit question.now }
     ensures { IfOk result (λ goals. AllZip IsFormOf (goals_of question.now) goals) }
 {
-    let letters = generators(alloc, asked_group(question).generators())?;
     match question {
         Question::WordIsOne { word, .. } => reduced(alloc, slice::from_ref(word)),
         Question::WordsEqual { left, right, .. } => {
@@ -57,22 +56,24 @@ pub(crate) fn asked_goals(alloc: Global, question: &Question) -> Result<Words, N
             reduced(alloc, slice::from_ref(&word))
         }
         Question::InSubgroup { word, .. } => reduced(alloc, slice::from_ref(word)),
-        Question::Trivial { .. } => reduced(alloc, letters.as_slice()),
-        Question::Abelian { .. } => reduced(
-            alloc,
-            commutators(alloc, letters.as_slice())?.as_slice(),
-        ),
-        Question::Central { word, .. } => {
-            let mut goals = Words::new(alloc);
-            push_commutators(alloc, &mut goals, word, letters.as_slice())?;
-            reduced(alloc, goals.as_slice())
+        Question::Trivial { group } => reduced(alloc, generators(alloc, group)?.as_slice()),
+        Question::Abelian { group } => {
+            let xs = generators(alloc, group)?;
+            let words = commutators(alloc, xs.as_slice())?;
+            reduced(alloc, words.as_slice())
         }
-        Question::Normal { subgroup, .. } => {
-            let goals = conjugates(alloc, letters.as_slice(), subgroup.as_slice())?;
-            reduced(alloc, goals.as_slice())
+        Question::Central { group, word } => {
+            let xs = generators(alloc, group)?;
+            let words = commutators_with(alloc, word, xs.as_slice())?;
+            reduced(alloc, words.as_slice())
+        }
+        Question::Normal { group, subgroup } => {
+            let xs = generators(alloc, group)?;
+            let words = conjugates(alloc, xs.as_slice(), subgroup.as_slice())?;
+            reduced(alloc, words.as_slice())
         }
         Question::Extends { source, map, .. } => images(alloc, map, source.relators().as_slice()),
-        Question::Onto { .. } => reduced(alloc, letters.as_slice()),
+        Question::Onto { target, .. } => reduced(alloc, generators(alloc, target)?.as_slice()),
         Question::InKernel { map, word, .. } => images(alloc, map, slice::from_ref(word)),
     }
 }

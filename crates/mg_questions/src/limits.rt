@@ -5,6 +5,8 @@ ghost use Rattle.mg_words.specs.Word.{letters_of};
 ghost use Rattle.mg_present.specs.Image.{image_of};
 ghost use Rattle.mg_questions.specs.Goals.{goals_of};
 ghost use Rattle.mg_questions.specs.Asking.{AreAllowed, IsFit, IsGiven, IsRefused};
+ghost use Rattle.mg_present.specs.declared.presentation.TheConstants.{MOST_GENERATORS};
+ghost use Rattle.mg_present.specs.declared.ask.TheConstants.{MOST_SUBGROUP_WORDS};
 ghost use Rattle.mg_questions.specs.declared.question.TheConstants.{MOST_WORD_LETTERS};
 
 use crate::goals::asked_group;
@@ -62,8 +64,8 @@ pub(crate) fn refusal(question: &Question) -> Option<AskFault>
 
 // Whether the conjugates of so many words by so many generators and by their inverses are too many.
 fn too_many(generators: u32, words: usize) -> Option<AskFault>
-    requires generators { generators ≤ 64 }
-    requires words { words ≤ 64 }
+    requires generators { generators ≤ MOST_GENERATORS }
+    requires words { words ≤ MOST_SUBGROUP_WORDS }
     ensures { MatchOption result (2 * words * generators ≤ MOST_GOALS)
         (λ fault. (fault ≡ AskFault.TooManyGoals (2 * words * generators)) × (MOST_GOALS < 2 * words * generators)) }
 {

@@ -6,17 +6,16 @@ ghost use Rattle.mg_words.specs.Reduction.{IsFormOf};
 ghost use Rattle.mg_present.specs.Image.{image_of};
 ghost use Rattle.mg_questions.specs.Goals.{commutators as commutators_of, conjugates as conjugates_of, conjugates_by, generators as generators_of};
 
-use mg_present::{GenMap, image};
+use mg_present::{GenMap, Presentation, image};
 use mg_words::{Letter, NoMemory, Word, Words, commutator, concat, inverse, reduce};
 use std::alloc::Global;
 
-// The generators as words.
-pub(crate) fn generators(alloc: Global, count: u32) -> Result<Words, NoMemory>
-    requires { count ≤ 64 }
-    ensures { IfOk result (λ words. words ≡ generators_of count) }
+// The generators of the group as words.
+pub(crate) fn generators(alloc: Global, group: &Presentation) -> Result<Words, NoMemory>
+    ensures { IfOk result (λ words. words ≡ generators_of group.now.generators) }
 {
     let mut words = Words::new(alloc);
-    for place in 0..count {
+    for place in 0..group.generators() {
         let generator = place as u8 + 1;
         let letter = Letter {
             generator,
@@ -46,13 +45,17 @@ pub(crate) fn commutators(alloc: Global, us: &[Word]) -> Result<Words, NoMemory>
     Ok(words)
 }
 
+// The commutators of one word with others.
+pub(crate) fn commutators_with(alloc: Global, u: &Word, vs: &[Word]) -> Result<Words, NoMemory>
+    ensures { IfOk result (λ words. words ≡ map_of (commutator_of u.now.letters) (letters_of vs.now)) }
+{
+    let mut words = Words::new(alloc);
+    push_commutators(alloc, &mut words, u, vs)?;
+    Ok(words)
+}
+
 // Appends the commutators of one word with others.
-pub(crate) fn push_commutators(
-    alloc: Global,
-    words: &mut Words,
-    u: &Word,
-    vs: &[Word],
-) -> Result<(), NoMemory>
+fn push_commutators(alloc: Global, words: &mut Words, u: &Word, vs: &[Word]) -> Result<(), NoMemory>
     ensures { OnOk result (words.new ≡ words.old ++ map_of (commutator_of u.now.letters) (letters_of vs.now)) }
 {
     for v in vs {
