@@ -13,3 +13,6 @@ pub use laws::{asks_keep_the_meaning, equal_questions_are_one};
 pub use limits::AskFault;
 pub use mg_words::NoMemory;
 pub use question::{MOST_GOAL_LETTERS, MOST_WORD_LETTERS, Question, is_fit};
+
+#[cfg(test)]
+mod tests;
