@@ -9,6 +9,11 @@ const A: Letter = Letter {
     inverse: false,
 };
 
+const B: Letter = Letter {
+    generator: 2,
+    inverse: false,
+};
+
 fn one_word(alloc: Global, letters: &[Letter]) -> Result<Words, NoMemory> {
     let mut words = Words::new(alloc);
     words.push(Word::from_letters(alloc, letters)?)?;
@@ -17,11 +22,7 @@ fn one_word(alloc: Global, letters: &[Letter]) -> Result<Words, NoMemory> {
 
 #[test]
 fn relators_are_reduced_words_over_the_generators(rt: HostRuntime) -> Result<(), Fail> {
-    let b = Letter {
-        generator: 2,
-        inverse: false,
-    };
-    for (letters, fitting) in [([A, A], true), ([A, A.inverted()], false), ([A, b], false)] {
+    for (letters, fitting) in [([A, A], true), ([A, A.inverted()], false), ([A, B], false)] {
         let words = one_word(rt.alloc(), &letters)?;
         assert_eq!(rt; fits(1, &words), fitting);
     }
@@ -51,5 +52,22 @@ fn asks_keep_what_is_asked(rt: HostRuntime) -> Result<(), Fail> {
     assert_eq!(rt; ask.group().generators(), 1);
     assert_eq!(rt; ask.subgroup().len(), 0);
     assert_eq!(rt; ask.goals().len(), 0);
+    Ok(())
+}
+
+// The map that takes the first generator to a b and the second to b.
+fn worked_map(alloc: Global) -> Result<GenMap, NoMemory> {
+    let mut images = one_word(alloc, &[A, B])?;
+    images.push(Word::from_letters(alloc, &[B])?)?;
+    Ok(GenMap::new(images))
+}
+
+#[test]
+fn images_are_reduced(rt: HostRuntime) -> Result<(), Fail> {
+    let alloc = rt.alloc();
+    let map = worked_map(alloc)?;
+    let word = Word::from_letters(alloc, &[A, B.inverted()])?;
+    assert!(rt; image(alloc, &map, &word)? == Word::from_letters(alloc, &[A])?);
+    assert_eq!(rt; image_length(&map, &word), 3);
     Ok(())
 }
