@@ -1,0 +1,6 @@
+pub mod Lexeme
+pub mod Word
+pub mod Event
+pub mod Beginning
+pub mod Cause
+pub mod Reading

@@ -1,0 +1,118 @@
+-- How a word is read, lexeme by lexeme. A state is a tree with an open end.
+use Rattle.std.specs.Prelude.{ℕ, zero, suc, ◌+◌, Bool, true, false, Option, Some, None, List, [], ◌∷◌, ◌++◌, length, option_and_then}
+use Rattle.mg_lex.specs.declared.mark.Mark.TheVariants as mark
+use Rattle.mg_terms.specs.declared.lexeme.Lexeme.{Lexeme}
+use Rattle.mg_terms.specs.declared.lexeme.Lexeme.TheVariants as lexeme
+use Rattle.mg_terms.specs.Word.{Base, name, one, round, commutator, Factor, bare, power, Word, single, times, star_lexemes, base_lexemes, word_lexemes}
+use Rattle.mg_terms.specs.Event.{Event, opens, base_events, word_events}
+
+-- what stands before a factor in its word: nothing, or a word, maybe with a star
+pub data Before : Type 0 where
+  none : Before
+  after : Word → (star : Bool) → Before
+
+-- which bracket is open: a parenthesis, that of a commutator, or that of a commutator with its first word
+-- and the comma
+pub data Opened : Type 0 where
+  in_round : Opened
+  in_left : Opened
+  in_right : Word → Opened
+
+-- an open bracket, and what stands before it in the word around it
+pub data Frame : Type 0 where
+  frame : Before → Opened → Frame
+
+-- in the innermost word: before a factor, behind a base, behind its caret, behind the minus sign of its
+-- exponent, or behind a whole word whose last factor has its exponent
+pub data Stand : Type 0 where
+  front : Before → Stand
+  behind : Before → Base → Stand
+  caret : Before → Base → Stand
+  minus : Before → Base → Stand
+  whole : Word → Stand
+
+-- the open brackets, the innermost first
+pub data State : Type 0 where
+  state : List Frame → Stand → State
+
+-- the word with one more factor
+abbrev pub joined : Before → Factor → Word
+joined none f = single f
+joined (after w star) f = times w star f
+
+-- a base begins
+abbrev pub begin_step : List Frame → Before → Lexeme → Option State
+begin_step fs before lexeme.Name = Some (state fs (behind before name))
+begin_step fs before (lexeme.Number (suc zero)) = Some (state fs (behind before one))
+begin_step fs before (lexeme.Mark mark.OpenRound) = Some (state (frame before in_round ∷ fs) (front none))
+begin_step fs before (lexeme.Mark mark.OpenSquare) = Some (state (frame before in_left ∷ fs) (front none))
+begin_step fs before _ = None
+
+-- a word ends with a parenthesis, with the comma of a commutator, with its closing bracket
+abbrev pub round_step : List Frame → Word → Option State
+round_step (frame before in_round ∷ fs) w = Some (state fs (behind before (round w)))
+round_step _ w = None
+
+abbrev pub comma_step : List Frame → Word → Option State
+comma_step (frame before in_left ∷ fs) w = Some (state (frame before (in_right w) ∷ fs) (front none))
+comma_step _ w = None
+
+abbrev pub square_step : List Frame → Word → Option State
+square_step (frame before (in_right u) ∷ fs) w = Some (state fs (behind before (commutator u w)))
+square_step _ w = None
+
+-- behind a whole word
+abbrev pub whole_step : List Frame → Word → Lexeme → Option State
+whole_step fs w (lexeme.Mark mark.Star) = Some (state fs (front (after w true)))
+whole_step fs w (lexeme.Mark mark.CloseRound) = round_step fs w
+whole_step fs w (lexeme.Mark mark.Comma) = comma_step fs w
+whole_step fs w (lexeme.Mark mark.CloseSquare) = square_step fs w
+whole_step fs w x = begin_step fs (after w false) x
+
+-- the number of an exponent
+abbrev pub number_step : List Frame → Before → Base → Bool → Lexeme → Option State
+number_step fs before b negative (lexeme.Number n) = Some (state fs (whole (joined before (power b negative n))))
+number_step fs before b negative _ = None
+
+-- the state behind one more lexeme; None where no word goes on with it
+abbrev pub step : State → Lexeme → Option State
+step (state fs (front before)) x = begin_step fs before x
+step (state fs (behind before b)) (lexeme.Mark mark.Caret) = Some (state fs (caret before b))
+step (state fs (behind before b)) x = whole_step fs (joined before (bare b)) x
+step (state fs (caret before b)) (lexeme.Mark mark.Minus) = Some (state fs (minus before b))
+step (state fs (caret before b)) x = number_step fs before b false x
+step (state fs (minus before b)) x = number_step fs before b true x
+step (state fs (whole w)) x = whole_step fs w x
+
+abbrev pub run : State → List Lexeme → Option State
+run s [] = Some s
+run s (x ∷ xs) = option_and_then (λ t. run t xs) (step s x)
+
+-- before the first lexeme
+abbrev pub start : State
+start = state [] (front none)
+
+-- what has been read
+abbrev pub before_lexemes : Before → List Lexeme
+before_lexemes none = []
+before_lexemes (after w star) = word_lexemes w ++ star_lexemes star
+
+abbrev pub opened_lexemes : Opened → List Lexeme
+opened_lexemes in_round = lexeme.Mark mark.OpenRound ∷ []
+opened_lexemes in_left = lexeme.Mark mark.OpenSquare ∷ []
+opened_lexemes (in_right u) = lexeme.Mark mark.OpenSquare ∷ (word_lexemes u ++ lexeme.Mark mark.Comma ∷ [])
+
+abbrev pub frames_lexemes : List Frame → List Lexeme
+frames_lexemes [] = []
+frames_lexemes (frame before o ∷ fs) = frames_lexemes fs ++ (before_lexemes before ++ opened_lexemes o)
+
+abbrev pub stand_lexemes : Stand → List Lexeme
+stand_lexemes (front before) = before_lexemes before
+stand_lexemes (behind before b) = before_lexemes before ++ base_lexemes b
+stand_lexemes (caret before b) = before_lexemes before ++ (base_lexemes b ++ lexeme.Mark mark.Caret ∷ [])
+stand_lexemes (minus before b) =
+    before_lexemes before ++ (base_lexemes b ++ lexeme.Mark mark.Caret ∷ lexeme.Mark mark.Minus ∷ [])
+stand_lexemes (whole w) = word_lexemes w
+
+abbrev pub state_lexemes : State → List Lexeme
+state_lexemes (state fs s) = frames_lexemes fs ++ stand_lexemes s
