@@ -1,3 +1,4 @@
 pub mod Machine
+pub mod Adding
 pub mod Unique
 pub mod Beginnings

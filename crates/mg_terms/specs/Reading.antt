@@ -116,3 +116,34 @@ stand_lexemes (whole w) = word_lexemes w
 
 abbrev pub state_lexemes : State → List Lexeme
 state_lexemes (state fs s) = frames_lexemes fs ++ stand_lexemes s
+
+-- how many brackets are open
+abbrev pub depth : List Frame → ℕ
+depth [] = 0
+depth (f ∷ fs) = depth fs + 1
+
+-- the events of what has been read
+abbrev pub before_events : ℕ → ℕ → Before → List Event
+before_events k d none = []
+before_events k d (after w star) = word_events k d w
+
+abbrev pub opened_events : ℕ → ℕ → Opened → List Event
+opened_events k d in_round = opens k d ∷ []
+opened_events k d in_left = opens k d ∷ []
+opened_events k d (in_right u) = opens k d ∷ word_events (k + 1) d u
+
+abbrev pub frames_events : List Frame → List Event
+frames_events [] = []
+frames_events (frame before o ∷ fs) =
+    frames_events fs ++ (before_events (length (frames_lexemes fs)) (depth fs) before ++
+    opened_events (length (frames_lexemes fs) + length (before_lexemes before)) (depth fs + 1) o)
+
+abbrev pub stand_events : ℕ → ℕ → Stand → List Event
+stand_events k d (front before) = before_events k d before
+stand_events k d (behind before b) = before_events k d before ++ base_events (k + length (before_lexemes before)) d b
+stand_events k d (caret before b) = before_events k d before ++ base_events (k + length (before_lexemes before)) d b
+stand_events k d (minus before b) = before_events k d before ++ base_events (k + length (before_lexemes before)) d b
+stand_events k d (whole w) = word_events k d w
+
+abbrev pub state_events : State → List Event
+state_events (state fs s) = frames_events fs ++ stand_events (length (frames_lexemes fs)) (depth fs) s
