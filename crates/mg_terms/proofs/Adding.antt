@@ -6,8 +6,8 @@ use Rattle.mg_terms.specs.declared.lexeme.Lexeme.{Lexeme}
 use Rattle.mg_terms.specs.declared.lexeme.Lexeme.TheVariants as lexeme
 use Rattle.mg_terms.specs.Word.{Base, name, one, round, commutator, Factor, bare, power, Word, single, times, minus_lexemes, base_lexemes, factor_lexemes, word_lexemes, base_letters, factor_letters, word_letters}
 use Rattle.mg_terms.specs.Event.{Event, opens, ends, part, base_events, factor_events, word_events}
-use Rattle.mg_terms.specs.Reading.{Before, none, after, Opened, in_round, in_left, in_right, Frame, frame, Stand, front, behind, caret, minus, whole, State, state, joined, begin_step, round_step, comma_step, square_step, whole_step, number_step, step, before_lexemes, frames_lexemes, stand_lexemes, state_lexemes, depth, before_events, opened_events, frames_events, stand_events, state_events}
-use Rattle.mg_terms.proofs.Machine.{joined_lexemes, closed}
+use Rattle.mg_terms.specs.Reading.{Before, none, after, Opened, in_round, in_left, in_right, Frame, frame, Stand, front, behind, caret, minus, whole, State, state, joined, begin_step, round_step, comma_step, square_step, whole_step, number_step, step, before_lexemes, frames_lexemes, stand_lexemes, state_lexemes, closed, closed_state, depth, before_events, opened_events, frames_events, stand_events, state_events}
+use Rattle.mg_terms.proofs.Machine.{joined_lexemes}
 
 -- the event comes with the lexeme at place k or later
 abbrev pub IsFresh : ℕ → Event → Type 0
@@ -137,9 +137,6 @@ number_adds fs before b negative (lexeme.Number n) =
 number_adds fs before b negative _ = tt
 
 -- what closing a base adds
-abbrev pub closed_state : State → State
-closed_state (state fs s) = state fs (closed s)
-
 abbrev pub closing_events : State → List Event
 closing_events (state fs (behind before b)) =
     part (length (frames_lexemes fs)) (word_lexemes (joined before (bare b))) (word_letters (joined before (bare b))) ∷ []

@@ -5,8 +5,8 @@ use Rattle.mg_terms.specs.declared.lexeme.Lexeme.{Lexeme}
 use Rattle.mg_terms.specs.declared.lexeme.Lexeme.TheVariants as lexeme
 use Rattle.mg_terms.specs.Word.{Base, name, one, round, commutator, Factor, bare, power, Word, single, times, word_lexemes}
 use Rattle.mg_terms.specs.Beginning.{IsBeginning, GoesOn, EndsBefore, BeginsBase, EndsBare, CanFollow}
-use Rattle.mg_terms.specs.Reading.{Before, none, after, Opened, in_round, in_left, in_right, Frame, frame, Stand, front, behind, caret, minus, whole, State, state, joined, begin_step, whole_step, step, run, start, before_lexemes, frames_lexemes, stand_lexemes, state_lexemes}
-use Rattle.mg_terms.proofs.Machine.{joined_lexemes, step_reads, if_some, closed, ended, closed_ended, ended_step}
+use Rattle.mg_terms.specs.Reading.{Before, none, after, Opened, in_round, in_left, in_right, Frame, frame, Stand, front, behind, caret, minus, whole, State, state, joined, begin_step, whole_step, step, run, start, before_lexemes, frames_lexemes, stand_lexemes, state_lexemes, closed}
+use Rattle.mg_terms.proofs.Machine.{joined_lexemes, step_reads, if_some, ended, closed_ended, ended_step}
 use Rattle.mg_terms.proofs.Unique.{word_reads, one_word}
 
 -- a chain that gives a value, link by link

@@ -2,3 +2,6 @@ pub mod Machine
 pub mod Adding
 pub mod Unique
 pub mod Beginnings
+pub mod Runs
+pub mod Reaches
+pub mod Faults

@@ -4,7 +4,7 @@ use Rattle.mg_lex.specs.declared.mark.Mark.TheVariants as mark
 use Rattle.mg_terms.specs.declared.lexeme.Lexeme.{Lexeme}
 use Rattle.mg_terms.specs.declared.lexeme.Lexeme.TheVariants as lexeme
 use Rattle.mg_terms.specs.Word.{Base, name, one, round, commutator, Factor, bare, power, Word, single, times, minus_lexemes, star_lexemes, base_lexemes, factor_lexemes, word_lexemes}
-use Rattle.mg_terms.specs.Reading.{Before, none, after, Opened, in_round, in_left, in_right, Frame, frame, Stand, front, behind, caret, minus, whole, State, state, joined, begin_step, round_step, comma_step, square_step, whole_step, number_step, step, run, start, before_lexemes, opened_lexemes, frames_lexemes, stand_lexemes, state_lexemes}
+use Rattle.mg_terms.specs.Reading.{Before, none, after, Opened, in_round, in_left, in_right, Frame, frame, Stand, front, behind, caret, minus, whole, State, state, joined, begin_step, round_step, comma_step, square_step, whole_step, number_step, step, run, start, before_lexemes, opened_lexemes, frames_lexemes, stand_lexemes, state_lexemes, closed}
 
 pub joined_lexemes : (before : Before) (f : Factor) → word_lexemes (joined before f) ≡ before_lexemes before ++ factor_lexemes f
 joined_lexemes none f = refl
@@ -63,11 +63,6 @@ step_reads (state fs (whole w)) x = whole_reads fs w x
 -- what holds of a value holds of the value of an option that is Some of it
 pub if_some : {A : Type 0} (P : A → Type 0) (o : Option A) (a : A) → o ≡ Some a → IfSome o P → P a
 if_some P o a e h = let k = subst (λ v. IfSome v P) e h in k
-
--- a base at the end of what is read is closed: its factor has no exponent
-abbrev pub closed : Stand → Stand
-closed (behind before b) = whole (joined before (bare b))
-closed s = s
 
 -- a lexeme other than a caret closes it
 pub closed_step : (fs : List Frame) (s : Stand) (x : Lexeme) → x ≢ lexeme.Mark mark.Caret → step (state fs s) x ≡ step (state fs (closed s)) x

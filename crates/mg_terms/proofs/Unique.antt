@@ -3,8 +3,8 @@ use Rattle.std.proofs.Common.{◌≡◌, ◌≢◌, ◌⊎◌, inl, inr, ℕ, Li
 use Rattle.mg_terms.specs.declared.lexeme.Lexeme.{Lexeme}
 use Rattle.mg_terms.specs.Word.{Word, word_lexemes}
 use Rattle.mg_terms.specs.Beginning.{IsBeginning, EndsBefore}
-use Rattle.mg_terms.specs.Reading.{Stand, whole, State, state, step, run, start}
-use Rattle.mg_terms.proofs.Machine.{closed, ended, closed_ended, word_runs}
+use Rattle.mg_terms.specs.Reading.{Stand, whole, State, state, step, run, start, closed}
+use Rattle.mg_terms.proofs.Machine.{ended, closed_ended, word_runs}
 
 -- a whole word is read to its end
 pub word_reads : (w : Word) → run start (word_lexemes w) ≡ Some (state [] (ended w))

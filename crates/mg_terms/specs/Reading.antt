@@ -1,10 +1,12 @@
 -- How a word is read, lexeme by lexeme. A state is a tree with an open end.
-use Rattle.std.specs.Prelude.{ℕ, zero, suc, ◌+◌, Bool, true, false, Option, Some, None, List, [], ◌∷◌, ◌++◌, length, option_and_then}
+use Rattle.std.specs.Prelude.{◌≡◌, ◌≢◌, ℕ, zero, suc, ◌+◌, ◌<◌, ◌≤◌, Bool, true, false, Option, Some, None, List, [], ◌∷◌, ◌++◌, length, option_and_then, Contains}
+use Rattle.std.specs.List.{AllByRecursion}
 use Rattle.mg_lex.specs.declared.mark.Mark.TheVariants as mark
 use Rattle.mg_terms.specs.declared.lexeme.Lexeme.{Lexeme}
 use Rattle.mg_terms.specs.declared.lexeme.Lexeme.TheVariants as lexeme
-use Rattle.mg_terms.specs.Word.{Base, name, one, round, commutator, Factor, bare, power, Word, single, times, star_lexemes, base_lexemes, word_lexemes}
-use Rattle.mg_terms.specs.Event.{Event, opens, base_events, word_events}
+use Rattle.mg_terms.specs.declared.limits.TheConstants.{WORD_LIMIT, DEPTH_LIMIT}
+use Rattle.mg_terms.specs.Word.{Base, name, one, round, commutator, Factor, bare, power, Word, single, times, star_lexemes, base_lexemes, word_lexemes, word_letters}
+use Rattle.mg_terms.specs.Event.{Event, opens, ends, base_events, word_events}
 
 -- what stands before a factor in its word: nothing, or a word, maybe with a star
 pub data Before : Type 0 where
@@ -117,6 +119,14 @@ stand_lexemes (whole w) = word_lexemes w
 abbrev pub state_lexemes : State → List Lexeme
 state_lexemes (state fs s) = frames_lexemes fs ++ stand_lexemes s
 
+-- a base at the end of what is read, where its factor has no exponent
+abbrev pub closed : Stand → Stand
+closed (behind before b) = whole (joined before (bare b))
+closed s = s
+
+abbrev pub closed_state : State → State
+closed_state (state fs s) = state fs (closed s)
+
 -- how many brackets are open
 abbrev pub depth : List Frame → ℕ
 depth [] = 0
@@ -147,3 +157,44 @@ stand_events k d (whole w) = word_events k d w
 
 abbrev pub state_events : State → List Event
 state_events (state fs s) = frames_events fs ++ stand_events (length (frames_lexemes fs)) (depth fs) s
+
+-- the event is within the limits
+abbrev pub IsWithin : Event → Type 0
+IsWithin (opens place d) = d ≤ DEPTH_LIMIT
+IsWithin (ends count letters) = letters ≤ WORD_LIMIT
+
+abbrev pub AreWithin : List Event → Type 0
+AreWithin es = AllByRecursion IsWithin es
+
+-- no word goes on with the next lexeme, if there is one
+abbrev pub StopsAt : State → List Lexeme → Type 0
+StopsAt s [] = Unit {0}
+StopsAt s (x ∷ xs) = step s x ≡ None
+
+-- no caret comes next
+abbrev pub NoCaret : List Lexeme → Type 0
+NoCaret [] = Unit {0}
+NoCaret (x ∷ xs) = x ≢ lexeme.Mark mark.Caret
+
+-- behind the base at the end of what is read, whose last lexeme is at the place, the word is too long
+abbrev pub ClosesLong : State → ℕ → Type 0
+ClosesLong (state fs (behind before b)) p =
+    (p + 1 ≡ length (state_lexemes (state fs (behind before b)))) × (WORD_LIMIT < word_letters (joined before (bare b)))
+ClosesLong _ p = ⊥
+
+-- with the lexeme at the place a part ends that is too long
+pub record TakesLong (s : State) (x : Lexeme) (p : ℕ) : Type 0 where
+  pub next : State
+  pub takes : step s x ≡ Some next
+  pub letters : ℕ
+  pub among : Contains (state_events next) (ends (p + 1) letters)
+  pub long : WORD_LIMIT < letters
+
+-- the lexeme at the place is a bracket that is one too many
+pub record TakesDeep (s : State) (x : Lexeme) (p : ℕ) : Type 0 where
+  pub next : State
+  pub takes : step s x ≡ Some next
+  pub depth : ℕ
+  pub adds : state_events next ≡ state_events (closed_state s) ++ opens p depth ∷ []
+  pub at_front : closed_state next ≡ next
+  pub deep : DEPTH_LIMIT < depth
