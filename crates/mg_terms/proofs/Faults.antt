@@ -246,7 +246,7 @@ module _ (front : List Lexeme) (x : Lexeme) (ys : List Lexeme) (s t : State) (re
         shows = shows;
       }
 
-pub takes_long : (front : List Lexeme) (x : Lexeme) (ys : List Lexeme) (s : State) → run start front ≡ Some s → AreWithin (state_events (closed_state s)) → TakesLong s x (length front) → IsFirstCause (front ++ x ∷ ys) (length front) cause.WordTooLong
+pub takes_long : (front : List Lexeme) (x : Lexeme) (ys : List Lexeme) (s : State) → run start front ≡ Some s → AreWithin (state_events (closed_state s)) → TakesLong (step s x) (length front) → IsFirstCause (front ++ x ∷ ys) (length front) cause.WordTooLong
 takes_long front x ys s reads within long =
     record {
       stands = inr (next_shown front x ys s long.next reads long.takes (ends (length front + 1) long.letters) cause.WordTooLong long.among (refl, refl, long.long));
@@ -272,7 +272,7 @@ unfolding OrDeep
 all_or_deep p depth [] within = (inr refl, tt)
 all_or_deep p depth (e ∷ es) within = (inl within.0, all_or_deep p depth es within.1)
 
-pub takes_deep : (front : List Lexeme) (x : Lexeme) (ys : List Lexeme) (s : State) → run start front ≡ Some s → AreWithin (state_events (closed_state s)) → TakesDeep s x (length front) → IsFirstCause (front ++ x ∷ ys) (length front) cause.TooMany
+pub takes_deep : (front : List Lexeme) (x : Lexeme) (ys : List Lexeme) (s : State) → run start front ≡ Some s → AreWithin (state_events (closed_state s)) → TakesDeep (state_events (closed_state s)) (step s x) (length front) → IsFirstCause (front ++ x ∷ ys) (length front) cause.TooMany
 takes_deep front x ys s reads within deep =
     let p = length front in
     let t = deep.next in

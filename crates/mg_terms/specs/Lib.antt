@@ -4,3 +4,5 @@ pub mod Event
 pub mod Beginning
 pub mod Cause
 pub mod Reading
+pub mod Reader
+pub mod Read

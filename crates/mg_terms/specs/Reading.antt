@@ -5,7 +5,7 @@ use Rattle.mg_lex.specs.declared.mark.Mark.TheVariants as mark
 use Rattle.mg_terms.specs.declared.lexeme.Lexeme.{Lexeme}
 use Rattle.mg_terms.specs.declared.lexeme.Lexeme.TheVariants as lexeme
 use Rattle.mg_terms.specs.declared.limits.TheConstants.{WORD_LIMIT, DEPTH_LIMIT}
-use Rattle.mg_terms.specs.Word.{Base, name, one, round, commutator, Factor, bare, power, Word, single, times, star_lexemes, base_lexemes, word_lexemes, word_letters}
+use Rattle.mg_terms.specs.Word.{Base, name, one, round, commutator, Factor, bare, power, Word, single, times, minus_lexemes, star_lexemes, base_lexemes, word_lexemes, word_letters}
 use Rattle.mg_terms.specs.Event.{Event, opens, ends, base_events, word_events}
 
 -- what stands before a factor in its word: nothing, or a word, maybe with a star
@@ -127,6 +127,11 @@ closed s = s
 abbrev pub closed_state : State → State
 closed_state (state fs s) = state fs (closed s)
 
+-- how much is read before the number of an exponent
+abbrev pub number_count : List Frame → Before → Base → Bool → ℕ
+number_count fs before b negative =
+    length (frames_lexemes fs ++ (before_lexemes before ++ (base_lexemes b ++ lexeme.Mark mark.Caret ∷ minus_lexemes negative)))
+
 -- how many brackets are open
 abbrev pub depth : List Frame → ℕ
 depth [] = 0
@@ -182,19 +187,19 @@ ClosesLong (state fs (behind before b)) p =
     (p + 1 ≡ length (state_lexemes (state fs (behind before b)))) × (WORD_LIMIT < word_letters (joined before (bare b)))
 ClosesLong _ p = ⊥
 
--- with the lexeme at the place a part ends that is too long
-pub record TakesLong (s : State) (x : Lexeme) (p : ℕ) : Type 0 where
+-- with the lexeme at the place, behind which the state is this one, a part ends that is too long
+pub record TakesLong (after_it : Option State) (p : ℕ) : Type 0 where
   pub next : State
-  pub takes : step s x ≡ Some next
+  pub takes : after_it ≡ Some next
   pub letters : ℕ
   pub among : Contains (state_events next) (ends (p + 1) letters)
   pub long : WORD_LIMIT < letters
 
--- the lexeme at the place is a bracket that is one too many
-pub record TakesDeep (s : State) (x : Lexeme) (p : ℕ) : Type 0 where
+-- it is a bracket that is one too many
+pub record TakesDeep (known : List Event) (after_it : Option State) (p : ℕ) : Type 0 where
   pub next : State
-  pub takes : step s x ≡ Some next
+  pub takes : after_it ≡ Some next
   pub depth : ℕ
-  pub adds : state_events next ≡ state_events (closed_state s) ++ opens p depth ∷ []
+  pub adds : state_events next ≡ known ++ opens p depth ∷ []
   pub at_front : closed_state next ≡ next
   pub deep : DEPTH_LIMIT < depth

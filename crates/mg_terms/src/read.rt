@@ -1,0 +1,43 @@
+//! The word at the front of some lexemes.
+
+ghost use Rattle.std.specs.Prelude.{◌≡◌, ◌≤◌, Err, IfOk, OnOk};
+ghost use Rattle.mg_terms.specs.declared.limits.TheConstants.{WORD_LIMIT};
+ghost use Rattle.mg_terms.specs.Cause.{IsFaultless, IsFirstCause};
+ghost use Rattle.mg_terms.specs.Read.{IsRead};
+
+use crate::lexeme::Lexeme;
+use crate::reader::Reader;
+use crate::refusal::{WordFault, WordRefused};
+use std::alloc::Global;
+
+/// A word at the front of some lexemes.
+#[derive(Clone, Copy, Debug, PartialEq, Eq)]
+pub struct WordRead {
+    /// How many lexemes it has.
+    pub count: usize,
+    /// How many letters it has, written out, with nothing reduced.
+    pub letters: u32,
+}
+
+/// Reads the longest word at the front of the lexemes, or finds the first cause that stands in them.
+/// What can't go on with a word may follow it.
+pub fn read_word(alloc: Global, lexemes: &[Lexeme]) -> Result<WordRead, WordRefused>
+    ensures word { IfOk result (IsRead lexemes.now) }
+    ensures within { IfOk result (λ r. r.letters ≤ WORD_LIMIT) }
+    ensures faultless { OnOk result (IsFaultless lexemes.now) }
+    ensures refused { (f : WordFault) → result ≡ Err (WordRefused.Fault f) → IsFirstCause lexemes.now f.place f.cause }
+{
+    let mut reader = Reader::new(alloc);
+    for (place, lexeme) in lexemes.iter().enumerate() {
+        if !reader.step(*lexeme, place)? {
+            let letters = reader.end(place)?;
+            return Ok(WordRead {
+                count: place,
+                letters,
+            });
+        }
+    }
+    let count = lexemes.len();
+    let letters = reader.end(count)?;
+    Ok(WordRead { count, letters })
+}

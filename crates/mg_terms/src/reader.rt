@@ -1,0 +1,309 @@
+//! A word is read lexeme by lexeme, from left to right, with the open brackets on a stack.
+
+ghost use Rattle.std.specs.Prelude.{◌≡◌, ◌≢◌, [], ◌∷◌, ◌++◌, ◌+◌, ◌*◌, ◌<◌, ◌≤◌, ℕ, Bool, List as ListOf, length, Err, OnOk};
+ghost use Rattle.mg_terms.specs.declared.limits.TheConstants.{WORD_LIMIT};
+
+ghost use Rattle.mg_terms.specs.Word.{Base, Word, base_letters, word_letters};
+ghost use Rattle.mg_terms.specs.Reading.{Before, Frame, State, state, start, front, behind, caret, minus, whole, round_step, comma_step, square_step, whole_step, begin_step, number_step, step, number_count, state_lexemes, state_events, AreWithin};
+ghost use Rattle.mg_terms.specs.Reader.{kept, around, begun, before_letters, Has, IsReady, Took, Brings, Steps, Ends};
+
+use crate::letters::{commutator, product, within};
+use crate::lexeme::Lexeme;
+use crate::limits::DEPTH_LIMIT;
+use crate::refusal::{WordFault, WordRefused, refused};
+use mg_lex::{Cause, Mark};
+use mg_lists::List;
+use std::alloc::Global;
+
+/// What a word stands behind.
+#[derive(Clone, Copy)]
+pub(crate) enum Bracket {
+    /// It is the outermost word.
+    Outermost,
+    /// `(`
+    Round,
+    /// `[`
+    Left,
+    /// `[`, a word with so many letters, and the comma.
+    Right(u32),
+}
+
+/// A word that has begun.
+#[derive(Clone, Copy)]
+pub(crate) struct Begun {
+    pub(crate) bracket: Bracket,
+    /// How many letters its whole factors have.
+    pub(crate) letters: u32,
+}
+
+/// What was read last in the innermost word.
+#[derive(Clone, Copy)]
+pub(crate) enum Position {
+    /// Its bracket or a star: a factor must come.
+    Front,
+    /// A base with so many letters: an exponent may come.
+    Base(u32),
+    /// The caret behind a base.
+    Caret(u32),
+    /// The minus sign behind a caret.
+    Minus(u32),
+    /// A factor with its exponent.
+    Whole,
+}
+
+/// What has been read of a word.
+#[derive(Drop)]
+pub(crate) struct Reader {
+    /// The words around the innermost one, the outermost first.
+    pub(crate) around: List<Begun>,
+    pub(crate) word: Begun,
+    pub(crate) position: Position,
+}
+
+impl Reader {
+    pub(crate) fn new(alloc: Global) -> Reader
+        ensures { kept start ≡ result }
+    {
+        Reader {
+            around: List::new(alloc),
+            word: Begun {
+                bracket: Bracket::Outermost,
+                letters: 0,
+            },
+            position: Position::Front,
+        }
+    }
+
+    /// Opens a bracket.
+    fn open(&mut self, bracket: Bracket, place: usize) -> Result<(), WordRefused>
+        ensures room { OnOk result (length self.old.around < DEPTH_LIMIT) }
+        ensures opened { OnOk result (self.new ≡ record {
+            around = self.old.around ++ self.old.word ∷ [];
+            word = record { bracket = bracket; letters = 0 };
+            position = Position.Front }) }
+        ensures fault { (f : WordFault) → result ≡ Err (WordRefused.Fault f) →
+            (f.place ≡ place) × (f.cause ≡ Cause.TooMany) × (DEPTH_LIMIT ≤ length self.old.around) }
+    {
+        if self.around.as_slice().len() >= DEPTH_LIMIT {
+            return Err(refused(place, Cause::TooMany));
+        }
+        if self.around.push(self.word).is_err() {
+            return Err(WordRefused::NoMemory);
+        }
+        self.word = Begun {
+            bracket,
+            letters: 0,
+        };
+        self.position = Position::Front;
+        Ok(())
+    }
+
+    /// Closes the innermost bracket: what it holds is a base with so many letters.
+    fn close(&mut self, letters: u32)
+        ensures { (outer : ListOf Begun) (word : Begun) → self.old.around ≡ outer ++ word ∷ [] →
+            self.new ≡ record { around = outer; word = word; position = Position.Base letters } }
+    {
+        if let Some(word) = self.around.pop() {
+            self.word = word;
+            self.position = Position::Base(letters);
+        }
+    }
+
+    /// Takes the lexeme if a base begins with it.
+    fn begin(&mut self, lexeme: Lexeme, place: usize) -> Result<bool, WordRefused>
+        ensures { (fs : ListOf Frame) (before : Before) → Has self.old fs (before_letters before) →
+            IsReady (state fs (front before)) place →
+            Brings (state_events (state fs (front before))) (begin_step fs before lexeme) place self.old self.new result }
+    {
+        match lexeme {
+            Lexeme::Name => {
+                self.position = Position::Base(1);
+                Ok(true)
+            }
+            Lexeme::Number(1) => {
+                self.position = Position::Base(0);
+                Ok(true)
+            }
+            Lexeme::Mark(Mark::OpenRound) => {
+                self.open(Bracket::Round, place)?;
+                Ok(true)
+            }
+            Lexeme::Mark(Mark::OpenSquare) => {
+                self.open(Bracket::Left, place)?;
+                Ok(true)
+            }
+            _ => Ok(false),
+        }
+    }
+
+    /// Takes a closing parenthesis behind a whole word.
+    fn close_round(&mut self) -> bool
+        ensures { (fs : ListOf Frame) (w : Word) → Has self.old fs (word_letters w) →
+            AreWithin (state_events (state fs (whole w))) → Took (round_step fs w) self.old self.new result }
+    {
+        match self.word.bracket {
+            Bracket::Round => {
+                self.close(self.word.letters);
+                true
+            }
+            _ => false,
+        }
+    }
+
+    /// Takes a comma behind a whole word.
+    fn comma(&mut self) -> bool
+        ensures { (fs : ListOf Frame) (w : Word) → Has self.old fs (word_letters w) →
+            AreWithin (state_events (state fs (whole w))) → Took (comma_step fs w) self.old self.new result }
+    {
+        match self.word.bracket {
+            Bracket::Left => {
+                self.word = Begun {
+                    bracket: Bracket::Right(self.word.letters),
+                    letters: 0,
+                };
+                self.position = Position::Front;
+                true
+            }
+            _ => false,
+        }
+    }
+
+    /// Takes a closing bracket behind a whole word.
+    fn close_square(&mut self, place: usize) -> Result<bool, WordRefused>
+        ensures { (fs : ListOf Frame) (w : Word) → Has self.old fs (word_letters w) →
+            IsReady (state fs (whole w)) place →
+            Brings (state_events (state fs (whole w))) (square_step fs w) place self.old self.new result }
+    {
+        match self.word.bracket {
+            Bracket::Right(left) => match within(commutator(left, self.word.letters)) {
+                Some(letters) => {
+                    self.close(letters);
+                    Ok(true)
+                }
+                None => Err(refused(place, Cause::WordTooLong)),
+            },
+            _ => Ok(false),
+        }
+    }
+
+    /// Takes the lexeme behind a whole word.
+    fn go_on(&mut self, lexeme: Lexeme, place: usize) -> Result<bool, WordRefused>
+        ensures { (fs : ListOf Frame) (w : Word) → Has self.old fs (word_letters w) →
+            IsReady (state fs (whole w)) place →
+            Brings (state_events (state fs (whole w))) (whole_step fs w lexeme) place self.old self.new result }
+    {
+        match lexeme {
+            Lexeme::Mark(Mark::Star) => {
+                self.position = Position::Front;
+                Ok(true)
+            }
+            Lexeme::Mark(Mark::CloseRound) => Ok(self.close_round()),
+            Lexeme::Mark(Mark::Comma) => Ok(self.comma()),
+            Lexeme::Mark(Mark::CloseSquare) => self.close_square(place),
+            _ => self.begin(lexeme, place),
+        }
+    }
+
+    /// Counts a power of a base, whose last lexeme stands at the place, as a factor.
+    fn grow(&mut self, base: u32, exponent: u64, place: usize) -> Result<(), WordRefused>
+        ensures within { OnOk result (self.old.word.letters + base * exponent ≤ WORD_LIMIT) }
+        ensures grown { OnOk result (self.new ≡ record {
+            around = self.old.around;
+            word = record { bracket = self.old.word.bracket; letters = self.old.word.letters + base * exponent };
+            position = Position.Whole }) }
+        ensures fault { (f : WordFault) → result ≡ Err (WordRefused.Fault f) →
+            (f.place ≡ place) × (f.cause ≡ Cause.WordTooLong) × (WORD_LIMIT < self.old.word.letters + base * exponent) }
+        ensures no_memory { result ≢ Err WordRefused.NoMemory }
+    {
+        match within(product(self.word.letters, base, exponent)) {
+            Some(letters) => {
+                self.word.letters = letters;
+                self.position = Position::Whole;
+                Ok(())
+            }
+            None => Err(refused(place, Cause::WordTooLong)),
+        }
+    }
+
+    /// Takes the number of an exponent.
+    fn exponent(&mut self, base: u32, lexeme: Lexeme, place: usize) -> Result<bool, WordRefused>
+        ensures { (fs : ListOf Frame) (before : Before) (b : Base) (negative : Bool) →
+            Has self.old fs (before_letters before) → base ≡ base_letters b →
+            number_count fs before b negative ≡ place → AreWithin (state_events (state fs (behind before b))) →
+            Brings (state_events (state fs (behind before b))) (number_step fs before b negative lexeme)
+                place self.old self.new result }
+    {
+        match lexeme {
+            Lexeme::Number(exponent) => {
+                self.grow(base, exponent, place)?;
+                Ok(true)
+            }
+            _ => Ok(false),
+        }
+    }
+
+    /// Takes the lexeme behind a base.
+    fn behind_base(&mut self, base: u32, lexeme: Lexeme, place: usize) -> Result<bool, WordRefused>
+        requires { 1 ≤ place }
+        ensures { (fs : ListOf Frame) (before : Before) (b : Base) →
+            Has self.old fs (before_letters before) → base ≡ base_letters b →
+            IsReady (state fs (behind before b)) place →
+            Steps (state fs (behind before b)) lexeme place self.new result }
+    {
+        match lexeme {
+            Lexeme::Mark(Mark::Caret) => {
+                self.position = Position::Caret(base);
+                Ok(true)
+            }
+            _ => {
+                self.grow(base, 1, place - 1)?;
+                self.go_on(lexeme, place)
+            }
+        }
+    }
+
+    /// Takes the lexeme behind a caret.
+    fn behind_caret(&mut self, base: u32, lexeme: Lexeme, place: usize) -> Result<bool, WordRefused>
+        ensures { (fs : ListOf Frame) (before : Before) (b : Base) →
+            Has self.old fs (before_letters before) → base ≡ base_letters b →
+            IsReady (state fs (caret before b)) place →
+            Brings (state_events (state fs (caret before b))) (step (state fs (caret before b)) lexeme)
+                place self.old self.new result }
+    {
+        match lexeme {
+            Lexeme::Mark(Mark::Minus) => {
+                self.position = Position::Minus(base);
+                Ok(true)
+            }
+            _ => self.exponent(base, lexeme, place),
+        }
+    }
+
+    /// Takes the lexeme at the place if a word goes on with it.
+    pub(crate) fn step(&mut self, lexeme: Lexeme, place: usize) -> Result<bool, WordRefused>
+        requires { (base : ℕ) → self.old.position ≡ Position.Base base → 1 ≤ place }
+        ensures { (s : State) → kept s ≡ self.old → IsReady s place → Steps s lexeme place self.new result }
+    {
+        match self.position {
+            Position::Front => self.begin(lexeme, place),
+            Position::Base(base) => self.behind_base(base, lexeme, place),
+            Position::Caret(base) => self.behind_caret(base, lexeme, place),
+            Position::Minus(base) => self.exponent(base, lexeme, place),
+            Position::Whole => self.go_on(lexeme, place),
+        }
+    }
+
+    /// How many letters the word has that ends before the place.
+    pub(crate) fn end(&mut self, place: usize) -> Result<u32, WordRefused>
+        requires { (base : ℕ) → self.old.position ≡ Position.Base base → 1 ≤ place }
+        ensures { (s : State) → kept s ≡ self.old → IsReady s place → Ends s place result }
+    {
+        if let Position::Base(base) = self.position {
+            self.grow(base, 1, place - 1)?;
+        }
+        match (self.position, self.word.bracket) {
+            (Position::Whole, Bracket::Outermost) => Ok(self.word.letters),
+            _ => Err(refused(place, Cause::Unexpected)),
+        }
+    }
+}
