@@ -5,3 +5,4 @@ pub mod Beginnings
 pub mod Runs
 pub mod Reaches
 pub mod Faults
+pub mod Taking

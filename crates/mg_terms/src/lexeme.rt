@@ -1,9 +1,6 @@
 //! Lexemes: what the grammar tells apart of a token.
 
-ghost use Rattle.std.specs.Prelude.{◌≡◌, ◌≤◌, ◌+◌, length};
-ghost use Rattle.mg_lex.specs.Line.{IsWithinLimits, token_bytes};
-ghost use Rattle.mg_lex.specs.Token.{IsToken};
-ghost use Rattle.mg_terms.specs.Lexeme.{IsLexemeOf};
+ghost use Rattle.std.specs.Prelude.{◌≡◌, ◌↔◌, IsTrue};
 
 use mg_lex::{Keyword, Mark};
 
@@ -18,4 +15,16 @@ pub enum Lexeme {
     /// A number, by its value.
     Number(u64),
     Mark(Mark),
+}
+
+impl Lexeme {
+    /// Whether it is this mark.
+    pub fn is(self, mark: Mark) -> bool
+        ensures { IsTrue result ↔ (self ≡ Lexeme.Mark mark) }
+    {
+        match self {
+            Lexeme::Mark(found) => found == mark,
+            _ => false,
+        }
+    }
 }

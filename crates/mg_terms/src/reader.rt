@@ -1,6 +1,6 @@
 //! A word is read lexeme by lexeme, from left to right, with the open brackets on a stack.
 
-ghost use Rattle.std.specs.Prelude.{◌≡◌, ◌≢◌, [], ◌∷◌, ◌++◌, ◌+◌, ◌*◌, ◌<◌, ◌≤◌, ℕ, Bool, List as ListOf, length, Err, OnOk};
+ghost use Rattle.std.specs.Prelude.{◌≡◌, ◌≢◌, [], ◌∷◌, ◌++◌, ◌+◌, ◌*◌, ◌<◌, ◌≤◌, ℕ, Bool, List as ListOf, length, Err, IsTrue, IfOk, OnOk};
 ghost use Rattle.mg_terms.specs.declared.limits.TheConstants.{WORD_LIMIT};
 
 ghost use Rattle.mg_terms.specs.Word.{Base, Word, base_letters, word_letters};
@@ -74,8 +74,9 @@ impl Reader {
         }
     }
 
-    /// Opens a bracket.
-    fn open(&mut self, bracket: Bracket, place: usize) -> Result<(), WordRefused>
+    /// Takes an opening bracket.
+    fn open(&mut self, bracket: Bracket, place: usize) -> Result<bool, WordRefused>
+        ensures taken { IfOk result IsTrue }
         ensures room { OnOk result (length self.old.around < DEPTH_LIMIT) }
         ensures opened { OnOk result (self.new ≡ record {
             around = self.old.around ++ self.old.word ∷ [];
@@ -95,7 +96,7 @@ impl Reader {
             letters: 0,
         };
         self.position = Position::Front;
-        Ok(())
+        Ok(true)
     }
 
     /// Closes the innermost bracket: what it holds is a base with so many letters.
@@ -124,14 +125,8 @@ impl Reader {
                 self.position = Position::Base(0);
                 Ok(true)
             }
-            Lexeme::Mark(Mark::OpenRound) => {
-                self.open(Bracket::Round, place)?;
-                Ok(true)
-            }
-            Lexeme::Mark(Mark::OpenSquare) => {
-                self.open(Bracket::Left, place)?;
-                Ok(true)
-            }
+            Lexeme::Mark(Mark::OpenRound) => self.open(Bracket::Round, place),
+            Lexeme::Mark(Mark::OpenSquare) => self.open(Bracket::Left, place),
             _ => Ok(false),
         }
     }
@@ -192,15 +187,17 @@ impl Reader {
             IsReady (state fs (whole w)) place →
             Brings (state_events (state fs (whole w))) (whole_step fs w lexeme) place self.old self.new result }
     {
-        match lexeme {
-            Lexeme::Mark(Mark::Star) => {
-                self.position = Position::Front;
-                Ok(true)
-            }
-            Lexeme::Mark(Mark::CloseRound) => Ok(self.close_round()),
-            Lexeme::Mark(Mark::Comma) => Ok(self.comma()),
-            Lexeme::Mark(Mark::CloseSquare) => self.close_square(place),
-            _ => self.begin(lexeme, place),
+        if lexeme.is(Mark::Star) {
+            self.position = Position::Front;
+            Ok(true)
+        } else if lexeme.is(Mark::CloseRound) {
+            Ok(self.close_round())
+        } else if lexeme.is(Mark::Comma) {
+            Ok(self.comma())
+        } else if lexeme.is(Mark::CloseSquare) {
+            self.close_square(place)
+        } else {
+            self.begin(lexeme, place)
         }
     }
 
@@ -250,16 +247,12 @@ impl Reader {
             IsReady (state fs (behind before b)) place →
             Steps (state fs (behind before b)) lexeme place self.new result }
     {
-        match lexeme {
-            Lexeme::Mark(Mark::Caret) => {
-                self.position = Position::Caret(base);
-                Ok(true)
-            }
-            _ => {
-                self.grow(base, 1, place - 1)?;
-                self.go_on(lexeme, place)
-            }
+        if lexeme.is(Mark::Caret) {
+            self.position = Position::Caret(base);
+            return Ok(true);
         }
+        self.grow(base, 1, place - 1)?;
+        self.go_on(lexeme, place)
     }
 
     /// Takes the lexeme behind a caret.
@@ -270,13 +263,11 @@ impl Reader {
             Brings (state_events (state fs (caret before b))) (step (state fs (caret before b)) lexeme)
                 place self.old self.new result }
     {
-        match lexeme {
-            Lexeme::Mark(Mark::Minus) => {
-                self.position = Position::Minus(base);
-                Ok(true)
-            }
-            _ => self.exponent(base, lexeme, place),
+        if lexeme.is(Mark::Minus) {
+            self.position = Position::Minus(base);
+            return Ok(true);
         }
+        self.exponent(base, lexeme, place)
     }
 
     /// Takes the lexeme at the place if a word goes on with it.
