@@ -6,3 +6,4 @@ pub mod Runs
 pub mod Reaches
 pub mod Faults
 pub mod Taking
+pub mod Reached

@@ -1,8 +1,11 @@
 -- What the reader keeps follows the states.
-use Rattle.std.proofs.Common.{◌≡◌, ◌≢◌, ◌⊎◌, inl, inr, ⊎_elim, ℕ, ◌+◌, ◌*◌, ◌<◌, ◌≤◌, Bool, true, false, IsTrue, List, [], ◌∷◌, ◌++◌, length, Option, Some, None, Result, Ok, Err, IfOk, OnOk, refl, sym, ap, subst, ◌∙◌, arith, append_assoc, length-append}
+use Rattle.std.proofs.Common.{◌≡◌, ◌≢◌, ◌⊎◌, inl, inr, ⊎_elim, ℕ, ◌+◌, ◌*◌, ◌<◌, ◌≤◌, Bool, true, false, IsTrue, List, [], ◌∷◌, ◌++◌, length, Option, Some, None, Result, Ok, Err, IfOk, OnOk, refl, sym, ap, subst, ◌∙◌, arith, append_assoc, append-nil, length-append, ◌↔◌}
 use Rattle.std.specs.List.{AllByRecursion, Contains}
 use Rattle.std.proofs.lemmas.List.Elements.{Contains-push, Contains-append_right}
 use Rattle.mg_lex.specs.declared.refusal.Cause.TheVariants as cause
+use Rattle.mg_lex.specs.declared.mark.Mark.TheVariants as mark
+use Rattle.mg_terms.specs.declared.lexeme.Lexeme.{Lexeme}
+use Rattle.mg_terms.specs.declared.lexeme.Lexeme.TheVariants as lexeme
 use Rattle.mg_terms.specs.declared.limits.TheConstants.{WORD_LIMIT, DEPTH_LIMIT}
 use Rattle.mg_terms.specs.declared.reader.Begun.{Begun}
 use Rattle.mg_terms.specs.declared.reader.Bracket.{Bracket}
@@ -12,11 +15,12 @@ use Rattle.mg_terms.specs.declared.reader.Reader.{Reader}
 use Rattle.mg_terms.specs.declared.refusal.WordFault.{WordFault}
 use Rattle.mg_terms.specs.declared.refusal.WordRefused.{WordRefused}
 use Rattle.mg_terms.specs.declared.refusal.WordRefused.TheVariants as refused
-use Rattle.mg_terms.specs.Word.{Base, one, round, commutator, Factor, bare, power, Word, single, times, star_lexemes, base_lexemes, factor_lexemes, word_lexemes, base_letters, factor_letters, word_letters}
+use Rattle.mg_terms.specs.Word.{Base, name, one, round, commutator, Factor, bare, power, Word, single, times, star_lexemes, base_lexemes, factor_lexemes, word_lexemes, base_letters, factor_letters, word_letters}
 use Rattle.mg_terms.specs.Event.{Event, opens, ends, part, factor_events, word_events}
-use Rattle.mg_terms.specs.Reading.{Before, none, after, Opened, in_round, in_left, in_right, Frame, frame, Stand, front, behind, caret, minus, whole, State, state, joined, round_step, square_step, number_count, depth, frames_lexemes, before_lexemes, state_lexemes, frames_events, state_events, closed_state, IsWithin, AreWithin, TakesLong, TakesDeep}
-use Rattle.mg_terms.specs.Reader.{bracket_of, begun, before_letters, around, kept, Has, IsReady, Takes, Brings}
-use Rattle.mg_terms.proofs.Adding.{front_known, front_place, whole_known, one_added, round_added, square_added, number_added, number_length, factor_length}
+use Rattle.mg_terms.specs.Reading.{Before, none, after, Opened, in_round, in_left, in_right, Frame, frame, Stand, front, behind, caret, minus, whole, State, state, joined, begin_step, round_step, square_step, whole_step, number_step, step, number_count, depth, frames_lexemes, before_lexemes, state_lexemes, frames_events, state_events, closed_state, IsWithin, AreWithin, TakesLong, TakesDeep}
+use Rattle.mg_terms.specs.Reader.{bracket_of, begun, before_letters, around, kept, Has, IsReady, Takes, Breaks, Brings, Steps, IsWhole, Ends}
+use Rattle.mg_terms.proofs.Machine.{closed_step}
+use Rattle.mg_terms.proofs.Adding.{front_known, front_place, whole_known, closed_adds, closed_lexemes, one_added, round_added, square_added, number_added, number_length, factor_length}
 use Rattle.mg_terms.proofs.Runs.{all_append}
 
 all_right : (P : Event → Type 0) (xs ys : List Event) → AllByRecursion P (xs ++ ys) → AllByRecursion P ys
@@ -217,3 +221,191 @@ number_breaks fs before b negative n base place old new (refused.Fault f) has sa
     let h = fault f refl in
     (h.0, inl (h.1, number_long fs before b negative n place here (subst (λ m. WORD_LIMIT < m) (grown_letters fs before b negative n base old has same) h.2)))
 number_breaks fs before b negative n base place old new refused.NoMemory has same here fault = tt
+
+pub number_breaks_at : (fs : List Frame) (before : Before) (b : Base) (negative : Bool) (n base place : ℕ) (old new : Reader) (e : WordRefused) (x : Lexeme) → x ≡ lexeme.Number n → Has old fs (before_letters before) → base ≡ base_letters b →
+    number_count fs before b negative ≡ place →
+    ((f : WordFault) → e ≡ refused.Fault f → (f.place ≡ place) × (f.cause ≡ cause.WordTooLong) × (WORD_LIMIT < old.word.letters + base * n)) →
+    Brings (state_events (state fs (behind before b))) (number_step fs before b negative x) place old new (Err e)
+number_breaks_at fs before b negative n base place old new e x read has same here fault =
+    subst (λ y. Brings (state_events (state fs (behind before b))) (number_step fs before b negative y) place old new (Err e)) (sym read)
+    (number_breaks fs before b negative n base place old new e has same here fault)
+
+-- behind a whole word, and what is neither a star nor closes it, a factor begins
+other_step : (fs : List Frame) (w : Word) (x : Lexeme) → x ≢ lexeme.Mark mark.Star → x ≢ lexeme.Mark mark.CloseRound → x ≢ lexeme.Mark mark.Comma → x ≢ lexeme.Mark mark.CloseSquare →
+    whole_step fs w x ≡ begin_step fs (after w false) x
+other_step fs w (lexeme.Mark mark.Star) no_star no_round no_comma no_square = absurd (no_star refl)
+other_step fs w (lexeme.Mark mark.CloseRound) no_star no_round no_comma no_square = absurd (no_round refl)
+other_step fs w (lexeme.Mark mark.Comma) no_star no_round no_comma no_square = absurd (no_comma refl)
+other_step fs w (lexeme.Mark mark.CloseSquare) no_star no_round no_comma no_square = absurd (no_square refl)
+other_step fs w x no_star no_round no_comma no_square = refl
+
+pub is_not : {A : Type 0} (r : Bool) → r ≡ false → IsTrue r ↔ A → A → ⊥
+is_not r off says a = let on : r ≡ true = says.1 a in cc
+
+pub whole_ready : (fs : List Frame) (w : Word) (place : ℕ) → IsReady (state fs (whole w)) place → IsReady (state fs (front (after w false))) place
+whole_ready fs w place ready = (ap (λ xs. length (frames_lexemes fs ++ xs)) (append-nil (word_lexemes w)) ∙ ready.0, ready.1)
+
+pub begin_brings : (fs : List Frame) (w : Word) (x : Lexeme) (place : ℕ) (old new : Reader) (result : Result Bool WordRefused) →
+    x ≢ lexeme.Mark mark.Star → x ≢ lexeme.Mark mark.CloseRound → x ≢ lexeme.Mark mark.Comma → x ≢ lexeme.Mark mark.CloseSquare →
+    Brings (whole_known fs w) (begin_step fs (after w false) x) place old new result → Brings (whole_known fs w) (whole_step fs w x) place old new result
+begin_brings fs w x place old new result no_star no_round no_comma no_square brings =
+    subst (λ o. Brings (whole_known fs w) o place old new result) (sym (other_step fs w x no_star no_round no_comma no_square)) brings
+
+-- a base at the end is closed
+pub record IsClosed (fs : List Frame) (before : Before) (b : Base) (grown : Reader) : Type 0 where
+  pub keeps : kept (state fs (whole (joined before (bare b)))) ≡ grown
+  pub within : AreWithin (whole_known fs (joined before (bare b)))
+
+pub base_closed : (fs : List Frame) (before : Before) (b : Base) (base : ℕ) (old grown : Reader) → Has old fs (before_letters before) → base ≡ base_letters b →
+    old.word.letters + base * 1 ≤ WORD_LIMIT →
+    grown ≡ record { around = old.around; word = record { bracket = old.word.bracket; letters = old.word.letters + base * 1 }; position = position.Whole } →
+    AreWithin (state_events (state fs (behind before b))) → IsClosed fs before b grown
+base_closed fs before b base old grown has same short grows within =
+    let w : Word = joined before (bare b) in
+    let s : State = state fs (behind before b) in
+    let old_letters = ap (λ (b : Begun). b.letters) has.1 in
+    let bracket = ap (λ (b : Begun). b.bracket) has.1 in
+    let sum = joined_letters before (bare b) in
+    let letters : old.word.letters + base * 1 ≡ word_letters w = omega arith in
+    let word_short : word_letters w ≤ WORD_LIMIT = omega arith in
+    record {
+      keeps = cc;
+      within = subst AreWithin (sym (closed_adds s)) (within_push (state_events s) (part (length (frames_lexemes fs)) (word_lexemes w) (word_letters w)) within word_short);
+    }
+
+pub closed_steps : (fs : List Frame) (before : Before) (b : Base) (x : Lexeme) (place : ℕ) (grown new : Reader) (result : Result Bool WordRefused) → x ≢ lexeme.Mark mark.Caret → IsClosed fs before b grown →
+    Brings (whole_known fs (joined before (bare b))) (whole_step fs (joined before (bare b)) x) place grown new result → Steps (state fs (behind before b)) x place new result
+closed_steps fs before b x place grown new (Ok true) other is_closed brings =
+    subst (λ o. Takes o new) (sym (closed_step fs (behind before b) x other)) brings
+closed_steps fs before b x place grown new (Ok false) other is_closed brings =
+    (closed_step fs (behind before b) x other ∙ brings.0, is_closed.keeps ∙ sym brings.1, is_closed.within)
+closed_steps fs before b x place grown new (Err (refused.Fault f)) other is_closed brings =
+    inr (is_closed.within, subst (λ o. Breaks (whole_known fs (joined before (bare b))) o place f) (sym (closed_step fs (behind before b) x other)) brings)
+closed_steps fs before b x place grown new (Err refused.NoMemory) other is_closed brings = tt
+
+-- a state without a base at its end
+pub open_steps : (s : State) (x : Lexeme) (place : ℕ) (old new : Reader) (result : Result Bool WordRefused) → closed_state s ≡ s → kept s ≡ old → AreWithin (state_events s) →
+    Brings (state_events s) (step s x) place old new result → Steps s x place new result
+open_steps s x place old new (Ok true) same keeps within brings = brings
+open_steps s x place old new (Ok false) same keeps within brings =
+    (brings.0, ap kept same ∙ keeps ∙ sym brings.1, subst (λ t. AreWithin (state_events t)) (sym same) within)
+open_steps s x place old new (Err (refused.Fault f)) same keeps within brings =
+    inr (subst (λ t. AreWithin (state_events t) × Breaks (state_events t) (step s x) place f) (sym same) (within, brings))
+open_steps s x place old new (Err refused.NoMemory) same keeps within brings = tt
+
+-- the state by its position
+pub record IsMinus (s : State) (base : ℕ) (old : Reader) : Type 0 where
+  pub frames : List Frame
+  pub before : Before
+  pub base_before : Base
+  pub is : s ≡ state frames (minus before base_before)
+  pub letters : base ≡ base_letters base_before
+  pub has : Has old frames (before_letters before)
+
+pub is_minus : (s : State) (old : Reader) (base : ℕ) → kept s ≡ old → old.position ≡ position.Minus base → IsMinus s base old
+is_minus (state fs (minus before b)) old base keeps at_minus =
+    let here = ap (λ (r : Reader). r.position) keeps ∙ at_minus in
+    record {
+      frames = fs;
+      before = before;
+      base_before = b;
+      is = refl;
+      letters = cc;
+      has = (sym (ap (λ (r : Reader). r.around) keeps), sym (ap (λ (r : Reader). r.word) keeps));
+    }
+is_minus (state fs (front before)) old base keeps at_minus = absurd (let here = ap (λ (r : Reader). r.position) keeps ∙ at_minus in cc)
+is_minus (state fs (behind before b)) old base keeps at_minus = absurd (let here = ap (λ (r : Reader). r.position) keeps ∙ at_minus in cc)
+is_minus (state fs (caret before b)) old base keeps at_minus = absurd (let here = ap (λ (r : Reader). r.position) keeps ∙ at_minus in cc)
+is_minus (state fs (whole w)) old base keeps at_minus = absurd (let here = ap (λ (r : Reader). r.position) keeps ∙ at_minus in cc)
+
+minus_brings : (fs : List Frame) (before : Before) (b : Base) (x : Lexeme) (place base : ℕ) (old new : Reader) (result : Result Bool WordRefused) → kept (state fs (minus before b)) ≡ old → IsReady (state fs (minus before b)) place →
+    base ≡ base_letters b → Has old fs (before_letters before) →
+    ((gs : List Frame) (outer : Before) (c : Base) (negative : Bool) → Has old gs (before_letters outer) → base ≡ base_letters c → number_count gs outer c negative ≡ place → AreWithin (state_events (state gs (behind outer c))) →
+      Brings (state_events (state gs (behind outer c))) (number_step gs outer c negative x) place old new result) →
+    Steps (state fs (minus before b)) x place new result
+minus_brings fs before b x place base old new result keeps ready same has brings =
+    open_steps (state fs (minus before b)) x place old new result refl keeps ready.1 (brings fs before b true has same ready.0 ready.1)
+
+pub minus_steps : (s : State) (x : Lexeme) (place base : ℕ) (old new : Reader) (result : Result Bool WordRefused) → kept s ≡ old → IsReady s place → old.position ≡ position.Minus base →
+    ((gs : List Frame) (outer : Before) (c : Base) (negative : Bool) → Has old gs (before_letters outer) → base ≡ base_letters c → number_count gs outer c negative ≡ place → AreWithin (state_events (state gs (behind outer c))) →
+      Brings (state_events (state gs (behind outer c))) (number_step gs outer c negative x) place old new result) →
+    Steps s x place new result
+minus_steps s x place base old new result keeps ready at_minus brings =
+    let h = is_minus s old base keeps at_minus in
+    subst (λ t. Steps t x place new result) (sym h.is)
+    (minus_brings h.frames h.before h.base_before x place base old new result (ap kept (sym h.is) ∙ keeps) (subst (λ t. IsReady t place) h.is ready) h.letters h.has brings)
+
+-- behind a caret and no minus sign comes the number
+pub caret_brings : (fs : List Frame) (before : Before) (b : Base) (x : Lexeme) (place : ℕ) (old new : Reader) (result : Result Bool WordRefused) → x ≢ lexeme.Mark mark.Minus →
+    Brings (state_events (state fs (behind before b))) (number_step fs before b false x) place old new result →
+    Brings (state_events (state fs (caret before b))) (step (state fs (caret before b)) x) place old new result
+caret_brings fs before b (lexeme.Mark mark.Minus) place old new result other brings = absurd (other refl)
+caret_brings fs before b x place old new result other brings = brings
+
+pub kept_has : (fs : List Frame) (w : Word) (r : Reader) → kept (state fs (whole w)) ≡ r → Has r fs (word_letters w)
+kept_has fs w r keeps = (sym (ap (λ (r : Reader). r.around) keeps), sym (ap (λ (r : Reader). r.word) keeps))
+
+pub closed_ready : (fs : List Frame) (before : Before) (b : Base) (place : ℕ) → IsReady (state fs (behind before b)) place → AreWithin (whole_known fs (joined before (bare b))) → IsReady (state fs (whole (joined before (bare b)))) place
+closed_ready fs before b place ready within = (ap length (closed_lexemes (state fs (behind before b))) ∙ ready.0, within)
+
+-- the state whose base is at the end
+pub record IsBehind (s : State) (base : ℕ) (old : Reader) : Type 0 where
+  pub frames : List Frame
+  pub before : Before
+  pub base_before : Base
+  pub is : s ≡ state frames (behind before base_before)
+  pub letters : base ≡ base_letters base_before
+  pub has : Has old frames (before_letters before)
+
+pub is_behind : (s : State) (old : Reader) (base : ℕ) → kept s ≡ old → old.position ≡ position.Base base → IsBehind s base old
+is_behind (state fs (behind before b)) old base keeps at_base =
+    let here = ap (λ (r : Reader). r.position) keeps ∙ at_base in
+    record {
+      frames = fs;
+      before = before;
+      base_before = b;
+      is = refl;
+      letters = cc;
+      has = (sym (ap (λ (r : Reader). r.around) keeps), sym (ap (λ (r : Reader). r.word) keeps));
+    }
+is_behind (state fs (front before)) old base keeps at_base = absurd (let here = ap (λ (r : Reader). r.position) keeps ∙ at_base in cc)
+is_behind (state fs (minus before b)) old base keeps at_base = absurd (let here = ap (λ (r : Reader). r.position) keeps ∙ at_base in cc)
+is_behind (state fs (caret before b)) old base keeps at_base = absurd (let here = ap (λ (r : Reader). r.position) keeps ∙ at_base in cc)
+is_behind (state fs (whole w)) old base keeps at_base = absurd (let here = ap (λ (r : Reader). r.position) keeps ∙ at_base in cc)
+
+base_some : (b : Base) → 1 ≤ length (base_lexemes b)
+base_some name = omega arith
+base_some one = omega arith
+base_some (round w) = omega arith
+base_some (commutator u v) = omega arith
+
+-- a base has been read
+pub behind_some : (s : State) (old : Reader) (base : ℕ) → kept s ≡ old → old.position ≡ position.Base base → 1 ≤ length (state_lexemes s)
+behind_some s old base keeps at_base =
+    let h = is_behind s old base keeps at_base in
+    let some = base_some h.base_before in
+    subst (λ t. 1 ≤ length (state_lexemes t)) (sym h.is) (simp length-append (omega arith))
+
+closed_ends : (fs : List Frame) (w : Word) (before : Before) (b : Base) (place : ℕ) (result : Result ℕ WordRefused) → w ≡ joined before (bare b) → Ends (state fs (whole w)) place result → Ends (state fs (behind before b)) place result
+closed_ends fs w before b place (Ok letters) same outcome = subst (λ v. Ends (state fs (whole v)) place (Ok letters)) same outcome
+closed_ends fs w before b place (Err (refused.Fault f)) same outcome =
+    ⊎_elim (λ never. absurd never.1) (λ stops. inr (subst (λ v. (f.place ≡ place) × (f.cause ≡ cause.Unexpected) × AreWithin (whole_known fs v) × ((w : Word) → IsWhole (state fs (whole v)) w → ⊥)) same stops)) outcome
+closed_ends fs w before b place (Err refused.NoMemory) same outcome = outcome
+
+behind_ends : (fs : List Frame) (before : Before) (b : Base) (place base : ℕ) (old grown : Reader) (result : Result ℕ WordRefused) → IsReady (state fs (behind before b)) place → base ≡ base_letters b → Has old fs (before_letters before) →
+    old.word.letters + base * 1 ≤ WORD_LIMIT →
+    grown ≡ record { around = old.around; word = record { bracket = old.word.bracket; letters = old.word.letters + base * 1 }; position = position.Whole } →
+    ((t : State) → kept t ≡ grown → closed_state t ≡ t → AreWithin (state_events t) → Ends t place result) → Ends (state fs (behind before b)) place result
+behind_ends fs before b place base old grown result ready same has short grows outcome =
+    let w : Word = joined before (bare b) in
+    let is_closed = base_closed fs before b base old grown has same short grows ready.1 in
+    closed_ends fs w before b place result refl (outcome (state fs (whole w)) is_closed.keeps refl is_closed.within)
+
+pub base_ends : (s : State) (place base : ℕ) (old grown : Reader) (result : Result ℕ WordRefused) → kept s ≡ old → IsReady s place → old.position ≡ position.Base base →
+    old.word.letters + base * 1 ≤ WORD_LIMIT →
+    grown ≡ record { around = old.around; word = record { bracket = old.word.bracket; letters = old.word.letters + base * 1 }; position = position.Whole } →
+    ((t : State) → kept t ≡ grown → closed_state t ≡ t → AreWithin (state_events t) → Ends t place result) → Ends s place result
+base_ends s place base old grown result keeps ready at_base short grows outcome =
+    let h = is_behind s old base keeps at_base in
+    subst (λ t. Ends t place result) (sym h.is)
+    (behind_ends h.frames h.before h.base_before place base old grown result (subst (λ t. IsReady t place) h.is ready) h.letters h.has short grows outcome)

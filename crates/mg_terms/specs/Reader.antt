@@ -1,5 +1,5 @@
 -- What the reader keeps of a state, and what its steps bring.
-use Rattle.std.specs.Prelude.{◌≡◌, ◌≢◌, ◌⊎◌, ℕ, ◌+◌, Bool, true, false, Option, Some, None, Result, Ok, Err, List, [], ◌∷◌, ◌++◌, length}
+use Rattle.std.specs.Prelude.{◌≡◌, ◌≢◌, ◌⊎◌, ℕ, ◌+◌, ◌≤◌, Bool, true, false, Option, Some, None, Result, Ok, Err, List, [], ◌∷◌, ◌++◌, length, take, drop}
 use Rattle.mg_lex.specs.declared.mark.Mark.TheVariants as mark
 use Rattle.mg_lex.specs.declared.refusal.Cause.TheVariants as cause
 use Rattle.mg_terms.specs.declared.lexeme.Lexeme.{Lexeme}
@@ -15,7 +15,7 @@ use Rattle.mg_terms.specs.declared.refusal.WordRefused.{WordRefused}
 use Rattle.mg_terms.specs.declared.refusal.WordRefused.TheVariants as refused
 use Rattle.mg_terms.specs.Word.{Base, Word, base_letters, word_letters}
 use Rattle.mg_terms.specs.Event.{Event}
-use Rattle.mg_terms.specs.Reading.{Before, none, after, Opened, in_round, in_left, in_right, Frame, frame, Stand, front, behind, caret, minus, whole, State, state, step, state_lexemes, closed_state, state_events, AreWithin, ClosesLong, TakesLong, TakesDeep}
+use Rattle.mg_terms.specs.Reading.{Before, none, after, Opened, in_round, in_left, in_right, Frame, frame, Stand, front, behind, caret, minus, whole, State, state, step, run, start, StopsAt, state_lexemes, closed_state, state_events, AreWithin, ClosesLong, TakesLong, TakesDeep}
 
 -- the bracket that the innermost word stands behind
 abbrev pub bracket_of : List Frame → Bracket
@@ -104,3 +104,14 @@ Ends s place (Err (refused.Fault f)) =
     ((f.cause ≡ cause.WordTooLong) × ClosesLong s f.place) ⊎
     ((f.place ≡ place) × (f.cause ≡ cause.Unexpected) × AreWithin (state_events (closed_state s)) × ((w : Word) → IsWhole s w → ⊥))
 Ends s place (Err refused.NoMemory) = ⊥
+
+-- the lexemes are read up to a place where no word goes on with the next one, and maybe closed there
+pub record HasStopped (xs : List Lexeme) (count : ℕ) (r : Reader) : Type 0 where
+  pub reached : State
+  pub inside : count ≤ length xs
+  pub runs : run start (take count xs) ≡ Some reached
+  pub stops : StopsAt reached (drop count xs)
+  pub seen : State
+  pub closes : (seen ≡ reached) ⊎ (seen ≡ closed_state reached)
+  pub keeps : kept seen ≡ r
+  pub ready : IsReady seen count

@@ -28,16 +28,7 @@ pub fn read_word(alloc: Global, lexemes: &[Lexeme]) -> Result<WordRead, WordRefu
     ensures refused { (f : WordFault) → result ≡ Err (WordRefused.Fault f) → IsFirstCause lexemes.now f.place f.cause }
 {
     let mut reader = Reader::new(alloc);
-    for (place, lexeme) in lexemes.iter().enumerate() {
-        if !reader.step(*lexeme, place)? {
-            let letters = reader.end(place)?;
-            return Ok(WordRead {
-                count: place,
-                letters,
-            });
-        }
-    }
-    let count = lexemes.len();
+    let count = reader.read(lexemes)?;
     let letters = reader.end(count)?;
     Ok(WordRead { count, letters })
 }

@@ -4,8 +4,9 @@ ghost use Rattle.std.specs.Prelude.{◌≡◌, ◌≢◌, [], ◌∷◌, ◌++�
 ghost use Rattle.mg_terms.specs.declared.limits.TheConstants.{WORD_LIMIT};
 
 ghost use Rattle.mg_terms.specs.Word.{Base, Word, base_letters, word_letters};
-ghost use Rattle.mg_terms.specs.Reading.{Before, Frame, State, state, start, front, behind, caret, minus, whole, round_step, comma_step, square_step, whole_step, begin_step, number_step, step, number_count, state_lexemes, state_events, AreWithin};
-ghost use Rattle.mg_terms.specs.Reader.{kept, around, begun, before_letters, Has, IsReady, Took, Brings, Steps, Ends};
+ghost use Rattle.mg_terms.specs.Reading.{Before, Frame, State, state, start, front, behind, caret, minus, whole, round_step, comma_step, square_step, whole_step, begin_step, number_step, step, number_count, state_lexemes, state_events, AreWithin, closed_state};
+ghost use Rattle.mg_terms.specs.Reader.{kept, around, begun, before_letters, Has, IsReady, Took, Brings, Steps, HasStopped, Ends};
+ghost use Rattle.mg_terms.specs.Cause.{IsFirstCause};
 
 use crate::letters::{commutator, product, within};
 use crate::lexeme::Lexeme;
@@ -284,17 +285,45 @@ impl Reader {
         }
     }
 
+    /// Takes lexemes as long as a word goes on with them, and tells how many.
+    pub(crate) fn read(&mut self, lexemes: &[Lexeme]) -> Result<usize, WordRefused>
+        requires { self.old ≡ kept start }
+        ensures stopped { IfOk result (λ count. HasStopped lexemes.now count self.new) }
+        ensures refused { (f : WordFault) → result ≡ Err (WordRefused.Fault f) →
+            IsFirstCause lexemes.now f.place f.cause }
+    {
+        for (place, lexeme) in lexemes.iter().enumerate() {
+            if !self.step(*lexeme, place)? {
+                return Ok(place);
+            }
+        }
+        Ok(lexemes.len())
+    }
+
+    /// How many letters the word has that ends before the place, behind a whole factor.
+    fn whole(&self, place: usize) -> Result<u32, WordRefused>
+        ensures { (s : State) → kept s ≡ self.now → closed_state s ≡ s → AreWithin (state_events s) → Ends s place result }
+    {
+        let Position::Whole = self.position else {
+            return Err(refused(place, Cause::Unexpected));
+        };
+        let Bracket::Outermost = self.word.bracket else {
+            return Err(refused(place, Cause::Unexpected));
+        };
+        Ok(self.word.letters)
+    }
+
     /// How many letters the word has that ends before the place.
     pub(crate) fn end(&mut self, place: usize) -> Result<u32, WordRefused>
         requires { (base : ℕ) → self.old.position ≡ Position.Base base → 1 ≤ place }
         ensures { (s : State) → kept s ≡ self.old → IsReady s place → Ends s place result }
     {
-        if let Position::Base(base) = self.position {
-            self.grow(base, 1, place - 1)?;
-        }
-        match (self.position, self.word.bracket) {
-            (Position::Whole, Bracket::Outermost) => Ok(self.word.letters),
-            _ => Err(refused(place, Cause::Unexpected)),
+        match self.position {
+            Position::Base(base) => {
+                self.grow(base, 1, place - 1)?;
+                self.whole(place)
+            }
+            _ => self.whole(place),
         }
     }
 }
