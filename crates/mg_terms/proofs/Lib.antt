@@ -7,3 +7,4 @@ pub mod Reaches
 pub mod Faults
 pub mod Taking
 pub mod Reached
+pub mod Tokens

@@ -8,9 +8,7 @@ use Rattle.mg_terms.specs.declared.lexeme.Lexeme.TheVariants as lexeme
 use Rattle.mg_terms.specs.declared.limits.TheConstants.{WORD_LIMIT}
 use Rattle.mg_terms.specs.declared.reader.Position.TheVariants as position
 use Rattle.mg_terms.specs.declared.reader.Reader.{Reader}
-use Rattle.mg_terms.specs.declared.refusal.WordFault.{WordFault}
-use Rattle.mg_terms.specs.declared.refusal.WordRefused.{WordRefused}
-use Rattle.mg_terms.specs.declared.refusal.WordRefused.TheVariants as refused
+use Rattle.mg_terms.specs.declared.fault.WordFault.{WordFault}
 use Rattle.mg_terms.specs.Word.{Word, word_lexemes, word_letters}
 use Rattle.mg_terms.specs.Cause.{IsReach, IsFaultless, IsFirstCause}
 use Rattle.mg_terms.specs.Read.{IsRead}
@@ -44,10 +42,10 @@ split_here : (xs : List Lexeme) (k : ℕ) (d : Lexeme) → k < length xs → tak
 split_here xs k d inside = ap (λ ys. take k xs ++ ys) (sym (drop_more xs k d inside)) ∙ take-append-drop k xs
 
 -- what the next step brings, whichever state has been read
-abbrev Brought : List Lexeme → ℕ → Reader → Reader → Result Bool WordRefused → Type 0
+abbrev Brought : List Lexeme → ℕ → Reader → Reader → Result Bool WordFault → Type 0
 Brought xs k r new result = (s : State) → kept s ≡ r → IsReady s k → Steps s (get_or xs k lexeme.Name) k new result
 
-brought : (xs : List Lexeme) (k : ℕ) (r new : Reader) (result : Result Bool WordRefused) → k < length xs → (has : HasRead (take k xs) r) → Brought xs k r new result → Steps has.reached (get_or xs k lexeme.Name) k new result
+brought : (xs : List Lexeme) (k : ℕ) (r new : Reader) (result : Result Bool WordFault) → k < length xs → (has : HasRead (take k xs) r) → Brought xs k r new result → Steps has.reached (get_or xs k lexeme.Name) k new result
 brought xs k r new result inside has outcome = outcome has.reached has.keeps (read_ready xs k r (omega arith) has)
 
 -- a step goes on
@@ -98,7 +96,7 @@ pub read_all : (xs : List Lexeme) (k : ℕ) (r : Reader) → k ≡ length xs →
 read_all xs k r at_end has = all_read xs r (subst (λ n. HasRead (take n xs) r) at_end has)
 
 -- a step refuses
-refusing : (xs : List Lexeme) (k : ℕ) (r new : Reader) (f : WordFault) → k < length xs → (has : HasRead (take k xs) r) → Steps has.reached (get_or xs k lexeme.Name) k new (Err (refused.Fault f)) → IsFirstCause xs f.place f.cause
+refusing : (xs : List Lexeme) (k : ℕ) (r new : Reader) (f : WordFault) → k < length xs → (has : HasRead (take k xs) r) → Steps has.reached (get_or xs k lexeme.Name) k new (Err f) → IsFirstCause xs f.place f.cause
 refusing xs k r new f inside has breaks =
     let x = get_or xs k lexeme.Name in
     let ys = drop (k + 1) xs in
@@ -116,9 +114,8 @@ refusing xs k r new f inside has breaks =
           takes.1.1))
       breaks)
 
-pub step_refuses : (xs : List Lexeme) (k : ℕ) (r new : Reader) (e : WordRefused) (f : WordFault) → e ≡ refused.Fault f → k < length xs → HasRead (take k xs) r → Brought xs k r new (Err e) → IsFirstCause xs f.place f.cause
-step_refuses xs k r new e f is inside has outcome =
-    refusing xs k r new f inside has (subst (λ v. Steps has.reached (get_or xs k lexeme.Name) k new (Err v)) is (brought xs k r new (Err e) inside has outcome))
+pub step_refuses : (xs : List Lexeme) (k : ℕ) (r new : Reader) (f : WordFault) → k < length xs → HasRead (take k xs) r → Brought xs k r new (Err f) → IsFirstCause xs f.place f.cause
+step_refuses xs k r new f inside has outcome = refusing xs k r new f inside has (brought xs k r new (Err f) inside has outcome)
 
 -- where reading has stopped
 closed_twice : (s : State) → closed_state (closed_state s) ≡ closed_state s
@@ -179,14 +176,11 @@ stopped_open xs count r has within open_end =
     subst (λ n. IsFirstCause xs n cause.Unexpected) (length-take-le count xs has.inside)
     (subst (λ ys. IsFirstCause ys (length (take count xs)) cause.Unexpected) (take-append-drop count xs) first)
 
-ending : (xs : List Lexeme) (count : ℕ) (r : Reader) (f : WordFault) (has : HasStopped xs count r) → Ends has.seen count (Err (refused.Fault f)) → IsFirstCause xs f.place f.cause
-ending xs count r f has outcome =
+pub stopped_refuses : (xs : List Lexeme) (count : ℕ) (r : Reader) (f : WordFault) (has : HasStopped xs count r) → Ends has.seen count (Err f) → IsFirstCause xs f.place f.cause
+stopped_refuses xs count r f has outcome =
     ⊎_elim
     (λ long. subst (IsFirstCause xs f.place) (sym long.0) (stopped_long xs count f.place r has long.1))
     (λ unexpected.
       subst (λ p. IsFirstCause xs p f.cause) (sym unexpected.0)
       (subst (IsFirstCause xs count) (sym unexpected.1) (stopped_open xs count r has unexpected.2 unexpected.3)))
     outcome
-
-pub stopped_refuses : (xs : List Lexeme) (count : ℕ) (r : Reader) (e : WordRefused) (f : WordFault) → e ≡ refused.Fault f → (has : HasStopped xs count r) → Ends has.seen count (Err e) → IsFirstCause xs f.place f.cause
-stopped_refuses xs count r e f is has outcome = ending xs count r f has (subst (λ v. Ends has.seen count (Err v)) is outcome)

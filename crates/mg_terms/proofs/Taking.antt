@@ -1,5 +1,5 @@
 -- What the reader keeps follows the states.
-use Rattle.std.proofs.Common.{◌≡◌, ◌≢◌, ◌⊎◌, inl, inr, ⊎_elim, ℕ, ◌+◌, ◌*◌, ◌<◌, ◌≤◌, Bool, true, false, IsTrue, List, [], ◌∷◌, ◌++◌, length, Option, Some, None, Result, Ok, Err, IfOk, OnOk, refl, sym, ap, subst, ◌∙◌, arith, append_assoc, append-nil, length-append, ◌↔◌}
+use Rattle.std.proofs.Common.{◌≡◌, ◌≢◌, ◌⊎◌, inl, inr, ⊎_elim, ℕ, ◌+◌, ◌*◌, ◌<◌, ◌≤◌, Bool, true, false, IsTrue, List, [], ◌∷◌, ◌++◌, length, Option, Some, None, Result, Ok, Err, IfOk, IfErr, OnOk, refl, sym, ap, subst, ◌∙◌, arith, append_assoc, append-nil, length-append, ◌↔◌}
 use Rattle.std.specs.List.{AllByRecursion, Contains}
 use Rattle.std.proofs.lemmas.List.Elements.{Contains-push, Contains-append_right}
 use Rattle.mg_lex.specs.declared.refusal.Cause.TheVariants as cause
@@ -7,14 +7,12 @@ use Rattle.mg_lex.specs.declared.mark.Mark.TheVariants as mark
 use Rattle.mg_terms.specs.declared.lexeme.Lexeme.{Lexeme}
 use Rattle.mg_terms.specs.declared.lexeme.Lexeme.TheVariants as lexeme
 use Rattle.mg_terms.specs.declared.limits.TheConstants.{WORD_LIMIT, DEPTH_LIMIT}
-use Rattle.mg_terms.specs.declared.reader.Begun.{Begun}
-use Rattle.mg_terms.specs.declared.reader.Bracket.{Bracket}
-use Rattle.mg_terms.specs.declared.reader.Bracket.TheVariants as bracket
+use Rattle.mg_terms.specs.declared.around.Begun.{Begun}
+use Rattle.mg_terms.specs.declared.around.Bracket.{Bracket}
+use Rattle.mg_terms.specs.declared.around.Bracket.TheVariants as bracket
 use Rattle.mg_terms.specs.declared.reader.Position.TheVariants as position
 use Rattle.mg_terms.specs.declared.reader.Reader.{Reader}
-use Rattle.mg_terms.specs.declared.refusal.WordFault.{WordFault}
-use Rattle.mg_terms.specs.declared.refusal.WordRefused.{WordRefused}
-use Rattle.mg_terms.specs.declared.refusal.WordRefused.TheVariants as refused
+use Rattle.mg_terms.specs.declared.fault.WordFault.{WordFault}
 use Rattle.mg_terms.specs.Word.{Base, name, one, round, commutator, Factor, bare, power, Word, single, times, star_lexemes, base_lexemes, factor_lexemes, word_lexemes, base_letters, factor_letters, word_letters}
 use Rattle.mg_terms.specs.Event.{Event, opens, ends, part, factor_events, word_events}
 use Rattle.mg_terms.specs.Reading.{Before, none, after, Opened, in_round, in_left, in_right, Frame, frame, Stand, front, behind, caret, minus, whole, State, state, joined, begin_step, round_step, square_step, whole_step, number_step, step, number_count, depth, frames_lexemes, before_lexemes, state_lexemes, frames_events, state_events, closed_state, IsWithin, AreWithin, TakesLong, TakesDeep}
@@ -60,13 +58,13 @@ one_taken fs before old has within = record {
 }
 
 -- a bracket is opened
-pub opened_brings : (fs : List Frame) (before : Before) (b : Bracket) (t : State) (place : ℕ) (old new : Reader) (result : Result Bool WordRefused) →
+pub opened_brings : (fs : List Frame) (before : Before) (b : Bracket) (t : State) (place : ℕ) (old new : Reader) (result : Result Bool WordFault) →
     kept t ≡ record { around = around fs ++ begun fs (before_letters before) ∷ []; word = record { bracket = b; letters = 0 }; position = position.Front } →
     state_events t ≡ front_known fs before ++ opens (front_place fs before) (depth fs + 1) ∷ [] → closed_state t ≡ t →
     Has old fs (before_letters before) → IsReady (state fs (front before)) place →
     IfOk result IsTrue → OnOk result (length old.around < DEPTH_LIMIT) →
     OnOk result (new ≡ record { around = old.around ++ old.word ∷ []; word = record { bracket = b; letters = 0 }; position = position.Front }) →
-    ((f : WordFault) → result ≡ Err (refused.Fault f) → (f.place ≡ place) × (f.cause ≡ cause.TooMany) × (DEPTH_LIMIT ≤ length old.around)) →
+    IfErr result (λ f. (f.place ≡ place) × (f.cause ≡ cause.TooMany) × (DEPTH_LIMIT ≤ length old.around)) →
     Brings (front_known fs before) (Some t) place old new result
 opened_brings fs before b t place old new (Ok true) keeps adds at_front has ready taken room opened fault =
     let deep = ap length has.0 ∙ depth_around fs in
@@ -77,11 +75,11 @@ opened_brings fs before b t place old new (Ok true) keeps adds at_front has read
       within = subst AreWithin (sym adds) (within_push (front_known fs before) (opens (front_place fs before) (depth fs + 1)) ready.1 (omega arith));
     }
 opened_brings fs before b t place old new (Ok false) keeps adds at_front has ready taken room opened fault = absurd (let never : false ≡ true = taken in cc)
-opened_brings fs before b t place old new (Err (refused.Fault f)) keeps adds at_front has ready taken room opened fault =
-    let h = fault f refl in
+opened_brings fs before b t place old new (Err f) keeps adds at_front has ready taken room opened fault =
     let deep = ap length has.0 ∙ depth_around fs in
+    let over = fault.2 in
     let here : front_place fs before ≡ place = sym (length-append (frames_lexemes fs) (before_lexemes before)) ∙ ready.0 in
-    (h.0, inr (h.1, record {
+    (fault.0, inr (fault.1, record {
       next = t;
       takes = refl;
       depth = depth fs + 1;
@@ -89,7 +87,6 @@ opened_brings fs before b t place old new (Err (refused.Fault f)) keeps adds at_
       at_front = at_front;
       deep = omega arith;
     }))
-opened_brings fs before b t place old new (Err refused.NoMemory) keeps adds at_front has ready taken room opened fault = tt
 
 -- a bracket is closed: what its word leaves
 abbrev Closes : Reader → Reader → ℕ → Type 0
@@ -213,22 +210,13 @@ number_long fs before b negative n place here long =
       long = long;
     }
 
-pub number_breaks : (fs : List Frame) (before : Before) (b : Base) (negative : Bool) (n base place : ℕ) (old new : Reader) (e : WordRefused) → Has old fs (before_letters before) → base ≡ base_letters b →
+pub number_breaks : (fs : List Frame) (before : Before) (b : Base) (negative : Bool) (n base place : ℕ) (old new : Reader) (f : WordFault) (x : Lexeme) → x ≡ lexeme.Number n → Has old fs (before_letters before) → base ≡ base_letters b →
     number_count fs before b negative ≡ place →
-    ((f : WordFault) → e ≡ refused.Fault f → (f.place ≡ place) × (f.cause ≡ cause.WordTooLong) × (WORD_LIMIT < old.word.letters + base * n)) →
-    Brings (state_events (state fs (behind before b))) (Some (state fs (whole (joined before (power b negative n))))) place old new (Err e)
-number_breaks fs before b negative n base place old new (refused.Fault f) has same here fault =
-    let h = fault f refl in
-    (h.0, inl (h.1, number_long fs before b negative n place here (subst (λ m. WORD_LIMIT < m) (grown_letters fs before b negative n base old has same) h.2)))
-number_breaks fs before b negative n base place old new refused.NoMemory has same here fault = tt
-
-pub number_breaks_at : (fs : List Frame) (before : Before) (b : Base) (negative : Bool) (n base place : ℕ) (old new : Reader) (e : WordRefused) (x : Lexeme) → x ≡ lexeme.Number n → Has old fs (before_letters before) → base ≡ base_letters b →
-    number_count fs before b negative ≡ place →
-    ((f : WordFault) → e ≡ refused.Fault f → (f.place ≡ place) × (f.cause ≡ cause.WordTooLong) × (WORD_LIMIT < old.word.letters + base * n)) →
-    Brings (state_events (state fs (behind before b))) (number_step fs before b negative x) place old new (Err e)
-number_breaks_at fs before b negative n base place old new e x read has same here fault =
-    subst (λ y. Brings (state_events (state fs (behind before b))) (number_step fs before b negative y) place old new (Err e)) (sym read)
-    (number_breaks fs before b negative n base place old new e has same here fault)
+    (f.place ≡ place) × (f.cause ≡ cause.WordTooLong) × (WORD_LIMIT < old.word.letters + base * n) →
+    Brings (state_events (state fs (behind before b))) (number_step fs before b negative x) place old new (Err f)
+number_breaks fs before b negative n base place old new f x read has same here fault =
+    let long = subst (λ m. WORD_LIMIT < m) (grown_letters fs before b negative n base old has same) fault.2 in
+    (fault.0, inl (fault.1, subst (λ y. TakesLong (number_step fs before b negative y) place) (sym read) (number_long fs before b negative n place here long)))
 
 -- behind a whole word, and what is neither a star nor closes it, a factor begins
 other_step : (fs : List Frame) (w : Word) (x : Lexeme) → x ≢ lexeme.Mark mark.Star → x ≢ lexeme.Mark mark.CloseRound → x ≢ lexeme.Mark mark.Comma → x ≢ lexeme.Mark mark.CloseSquare →
@@ -245,7 +233,7 @@ is_not r off says a = let on : r ≡ true = says.1 a in cc
 pub whole_ready : (fs : List Frame) (w : Word) (place : ℕ) → IsReady (state fs (whole w)) place → IsReady (state fs (front (after w false))) place
 whole_ready fs w place ready = (ap (λ xs. length (frames_lexemes fs ++ xs)) (append-nil (word_lexemes w)) ∙ ready.0, ready.1)
 
-pub begin_brings : (fs : List Frame) (w : Word) (x : Lexeme) (place : ℕ) (old new : Reader) (result : Result Bool WordRefused) →
+pub begin_brings : (fs : List Frame) (w : Word) (x : Lexeme) (place : ℕ) (old new : Reader) (result : Result Bool WordFault) →
     x ≢ lexeme.Mark mark.Star → x ≢ lexeme.Mark mark.CloseRound → x ≢ lexeme.Mark mark.Comma → x ≢ lexeme.Mark mark.CloseSquare →
     Brings (whole_known fs w) (begin_step fs (after w false) x) place old new result → Brings (whole_known fs w) (whole_step fs w x) place old new result
 begin_brings fs w x place old new result no_star no_round no_comma no_square brings =
@@ -273,25 +261,23 @@ base_closed fs before b base old grown has same short grows within =
       within = subst AreWithin (sym (closed_adds s)) (within_push (state_events s) (part (length (frames_lexemes fs)) (word_lexemes w) (word_letters w)) within word_short);
     }
 
-pub closed_steps : (fs : List Frame) (before : Before) (b : Base) (x : Lexeme) (place : ℕ) (grown new : Reader) (result : Result Bool WordRefused) → x ≢ lexeme.Mark mark.Caret → IsClosed fs before b grown →
+pub closed_steps : (fs : List Frame) (before : Before) (b : Base) (x : Lexeme) (place : ℕ) (grown new : Reader) (result : Result Bool WordFault) → x ≢ lexeme.Mark mark.Caret → IsClosed fs before b grown →
     Brings (whole_known fs (joined before (bare b))) (whole_step fs (joined before (bare b)) x) place grown new result → Steps (state fs (behind before b)) x place new result
 closed_steps fs before b x place grown new (Ok true) other is_closed brings =
     subst (λ o. Takes o new) (sym (closed_step fs (behind before b) x other)) brings
 closed_steps fs before b x place grown new (Ok false) other is_closed brings =
     (closed_step fs (behind before b) x other ∙ brings.0, is_closed.keeps ∙ sym brings.1, is_closed.within)
-closed_steps fs before b x place grown new (Err (refused.Fault f)) other is_closed brings =
+closed_steps fs before b x place grown new (Err f) other is_closed brings =
     inr (is_closed.within, subst (λ o. Breaks (whole_known fs (joined before (bare b))) o place f) (sym (closed_step fs (behind before b) x other)) brings)
-closed_steps fs before b x place grown new (Err refused.NoMemory) other is_closed brings = tt
 
 -- a state without a base at its end
-pub open_steps : (s : State) (x : Lexeme) (place : ℕ) (old new : Reader) (result : Result Bool WordRefused) → closed_state s ≡ s → kept s ≡ old → AreWithin (state_events s) →
+pub open_steps : (s : State) (x : Lexeme) (place : ℕ) (old new : Reader) (result : Result Bool WordFault) → closed_state s ≡ s → kept s ≡ old → AreWithin (state_events s) →
     Brings (state_events s) (step s x) place old new result → Steps s x place new result
 open_steps s x place old new (Ok true) same keeps within brings = brings
 open_steps s x place old new (Ok false) same keeps within brings =
     (brings.0, ap kept same ∙ keeps ∙ sym brings.1, subst (λ t. AreWithin (state_events t)) (sym same) within)
-open_steps s x place old new (Err (refused.Fault f)) same keeps within brings =
+open_steps s x place old new (Err f) same keeps within brings =
     inr (subst (λ t. AreWithin (state_events t) × Breaks (state_events t) (step s x) place f) (sym same) (within, brings))
-open_steps s x place old new (Err refused.NoMemory) same keeps within brings = tt
 
 -- the state by its position
 pub record IsMinus (s : State) (base : ℕ) (old : Reader) : Type 0 where
@@ -318,7 +304,7 @@ is_minus (state fs (behind before b)) old base keeps at_minus = absurd (let here
 is_minus (state fs (caret before b)) old base keeps at_minus = absurd (let here = ap (λ (r : Reader). r.position) keeps ∙ at_minus in cc)
 is_minus (state fs (whole w)) old base keeps at_minus = absurd (let here = ap (λ (r : Reader). r.position) keeps ∙ at_minus in cc)
 
-minus_brings : (fs : List Frame) (before : Before) (b : Base) (x : Lexeme) (place base : ℕ) (old new : Reader) (result : Result Bool WordRefused) → kept (state fs (minus before b)) ≡ old → IsReady (state fs (minus before b)) place →
+minus_brings : (fs : List Frame) (before : Before) (b : Base) (x : Lexeme) (place base : ℕ) (old new : Reader) (result : Result Bool WordFault) → kept (state fs (minus before b)) ≡ old → IsReady (state fs (minus before b)) place →
     base ≡ base_letters b → Has old fs (before_letters before) →
     ((gs : List Frame) (outer : Before) (c : Base) (negative : Bool) → Has old gs (before_letters outer) → base ≡ base_letters c → number_count gs outer c negative ≡ place → AreWithin (state_events (state gs (behind outer c))) →
       Brings (state_events (state gs (behind outer c))) (number_step gs outer c negative x) place old new result) →
@@ -326,7 +312,7 @@ minus_brings : (fs : List Frame) (before : Before) (b : Base) (x : Lexeme) (plac
 minus_brings fs before b x place base old new result keeps ready same has brings =
     open_steps (state fs (minus before b)) x place old new result refl keeps ready.1 (brings fs before b true has same ready.0 ready.1)
 
-pub minus_steps : (s : State) (x : Lexeme) (place base : ℕ) (old new : Reader) (result : Result Bool WordRefused) → kept s ≡ old → IsReady s place → old.position ≡ position.Minus base →
+pub minus_steps : (s : State) (x : Lexeme) (place base : ℕ) (old new : Reader) (result : Result Bool WordFault) → kept s ≡ old → IsReady s place → old.position ≡ position.Minus base →
     ((gs : List Frame) (outer : Before) (c : Base) (negative : Bool) → Has old gs (before_letters outer) → base ≡ base_letters c → number_count gs outer c negative ≡ place → AreWithin (state_events (state gs (behind outer c))) →
       Brings (state_events (state gs (behind outer c))) (number_step gs outer c negative x) place old new result) →
     Steps s x place new result
@@ -336,7 +322,7 @@ minus_steps s x place base old new result keeps ready at_minus brings =
     (minus_brings h.frames h.before h.base_before x place base old new result (ap kept (sym h.is) ∙ keeps) (subst (λ t. IsReady t place) h.is ready) h.letters h.has brings)
 
 -- behind a caret and no minus sign comes the number
-pub caret_brings : (fs : List Frame) (before : Before) (b : Base) (x : Lexeme) (place : ℕ) (old new : Reader) (result : Result Bool WordRefused) → x ≢ lexeme.Mark mark.Minus →
+pub caret_brings : (fs : List Frame) (before : Before) (b : Base) (x : Lexeme) (place : ℕ) (old new : Reader) (result : Result Bool WordFault) → x ≢ lexeme.Mark mark.Minus →
     Brings (state_events (state fs (behind before b))) (number_step fs before b false x) place old new result →
     Brings (state_events (state fs (caret before b))) (step (state fs (caret before b)) x) place old new result
 caret_brings fs before b (lexeme.Mark mark.Minus) place old new result other brings = absurd (other refl)
@@ -386,13 +372,12 @@ behind_some s old base keeps at_base =
     let some = base_some h.base_before in
     subst (λ t. 1 ≤ length (state_lexemes t)) (sym h.is) (simp length-append (omega arith))
 
-closed_ends : (fs : List Frame) (w : Word) (before : Before) (b : Base) (place : ℕ) (result : Result ℕ WordRefused) → w ≡ joined before (bare b) → Ends (state fs (whole w)) place result → Ends (state fs (behind before b)) place result
+closed_ends : (fs : List Frame) (w : Word) (before : Before) (b : Base) (place : ℕ) (result : Result ℕ WordFault) → w ≡ joined before (bare b) → Ends (state fs (whole w)) place result → Ends (state fs (behind before b)) place result
 closed_ends fs w before b place (Ok letters) same outcome = subst (λ v. Ends (state fs (whole v)) place (Ok letters)) same outcome
-closed_ends fs w before b place (Err (refused.Fault f)) same outcome =
+closed_ends fs w before b place (Err f) same outcome =
     ⊎_elim (λ never. absurd never.1) (λ stops. inr (subst (λ v. (f.place ≡ place) × (f.cause ≡ cause.Unexpected) × AreWithin (whole_known fs v) × ((w : Word) → IsWhole (state fs (whole v)) w → ⊥)) same stops)) outcome
-closed_ends fs w before b place (Err refused.NoMemory) same outcome = outcome
 
-behind_ends : (fs : List Frame) (before : Before) (b : Base) (place base : ℕ) (old grown : Reader) (result : Result ℕ WordRefused) → IsReady (state fs (behind before b)) place → base ≡ base_letters b → Has old fs (before_letters before) →
+behind_ends : (fs : List Frame) (before : Before) (b : Base) (place base : ℕ) (old grown : Reader) (result : Result ℕ WordFault) → IsReady (state fs (behind before b)) place → base ≡ base_letters b → Has old fs (before_letters before) →
     old.word.letters + base * 1 ≤ WORD_LIMIT →
     grown ≡ record { around = old.around; word = record { bracket = old.word.bracket; letters = old.word.letters + base * 1 }; position = position.Whole } →
     ((t : State) → kept t ≡ grown → closed_state t ≡ t → AreWithin (state_events t) → Ends t place result) → Ends (state fs (behind before b)) place result
@@ -401,7 +386,7 @@ behind_ends fs before b place base old grown result ready same has short grows o
     let is_closed = base_closed fs before b base old grown has same short grows ready.1 in
     closed_ends fs w before b place result refl (outcome (state fs (whole w)) is_closed.keeps refl is_closed.within)
 
-pub base_ends : (s : State) (place base : ℕ) (old grown : Reader) (result : Result ℕ WordRefused) → kept s ≡ old → IsReady s place → old.position ≡ position.Base base →
+pub base_ends : (s : State) (place base : ℕ) (old grown : Reader) (result : Result ℕ WordFault) → kept s ≡ old → IsReady s place → old.position ≡ position.Base base →
     old.word.letters + base * 1 ≤ WORD_LIMIT →
     grown ≡ record { around = old.around; word = record { bracket = old.word.bracket; letters = old.word.letters + base * 1 }; position = position.Whole } →
     ((t : State) → kept t ≡ grown → closed_state t ≡ t → AreWithin (state_events t) → Ends t place result) → Ends s place result

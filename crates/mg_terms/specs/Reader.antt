@@ -4,15 +4,13 @@ use Rattle.mg_lex.specs.declared.mark.Mark.TheVariants as mark
 use Rattle.mg_lex.specs.declared.refusal.Cause.TheVariants as cause
 use Rattle.mg_terms.specs.declared.lexeme.Lexeme.{Lexeme}
 use Rattle.mg_terms.specs.declared.lexeme.Lexeme.TheVariants as lexeme
-use Rattle.mg_terms.specs.declared.reader.Begun.{Begun}
-use Rattle.mg_terms.specs.declared.reader.Bracket.{Bracket}
-use Rattle.mg_terms.specs.declared.reader.Bracket.TheVariants as bracket
+use Rattle.mg_terms.specs.declared.around.Begun.{Begun}
+use Rattle.mg_terms.specs.declared.around.Bracket.{Bracket}
+use Rattle.mg_terms.specs.declared.around.Bracket.TheVariants as bracket
 use Rattle.mg_terms.specs.declared.reader.Position.{Position}
 use Rattle.mg_terms.specs.declared.reader.Position.TheVariants as position
 use Rattle.mg_terms.specs.declared.reader.Reader.{Reader}
-use Rattle.mg_terms.specs.declared.refusal.WordFault.{WordFault}
-use Rattle.mg_terms.specs.declared.refusal.WordRefused.{WordRefused}
-use Rattle.mg_terms.specs.declared.refusal.WordRefused.TheVariants as refused
+use Rattle.mg_terms.specs.declared.fault.WordFault.{WordFault}
 use Rattle.mg_terms.specs.Word.{Base, Word, base_letters, word_letters}
 use Rattle.mg_terms.specs.Event.{Event}
 use Rattle.mg_terms.specs.Reading.{Before, none, after, Opened, in_round, in_left, in_right, Frame, frame, Stand, front, behind, caret, minus, whole, State, state, step, run, start, StopsAt, state_lexemes, closed_state, state_events, AreWithin, ClosesLong, TakesLong, TakesDeep}
@@ -79,31 +77,28 @@ Breaks known after_it place f =
     (f.place ≡ place) × (((f.cause ≡ cause.WordTooLong) × TakesLong after_it place) ⊎ ((f.cause ≡ cause.TooMany) × TakesDeep known after_it place))
 
 -- what a lexeme at the place brings, by the state behind it
-abbrev pub Brings : List Event → Option State → ℕ → Reader → Reader → Result Bool WordRefused → Type 0
+abbrev pub Brings : List Event → Option State → ℕ → Reader → Reader → Result Bool WordFault → Type 0
 Brings known after_it place old new (Ok taken) = Took after_it old new taken
-Brings known after_it place old new (Err (refused.Fault f)) = Breaks known after_it place f
-Brings known after_it place old new (Err refused.NoMemory) = Unit {0}
+Brings known after_it place old new (Err f) = Breaks known after_it place f
 
 -- what a lexeme brings to a state: before any but a caret a base at the end is closed
-abbrev pub Steps : State → Lexeme → ℕ → Reader → Result Bool WordRefused → Type 0
+abbrev pub Steps : State → Lexeme → ℕ → Reader → Result Bool WordFault → Type 0
 Steps s x place new (Ok true) = Takes (step s x) new
 Steps s x place new (Ok false) = (step s x ≡ None) × (kept (closed_state s) ≡ new) × AreWithin (state_events (closed_state s))
-Steps s x place new (Err (refused.Fault f)) =
+Steps s x place new (Err f) =
     ((x ≢ lexeme.Mark mark.Caret) × (f.cause ≡ cause.WordTooLong) × ClosesLong s f.place) ⊎
     (AreWithin (state_events (closed_state s)) × Breaks (state_events (closed_state s)) (step s x) place f)
-Steps s x place new (Err refused.NoMemory) = Unit {0}
 
 -- a word ends here, behind its last bracket
 abbrev pub IsWhole : State → Word → Type 0
 IsWhole s w = closed_state s ≡ state [] (whole w)
 
 -- what ends with a state
-abbrev pub Ends : State → ℕ → Result ℕ WordRefused → Type 0
+abbrev pub Ends : State → ℕ → Result ℕ WordFault → Type 0
 Ends s place (Ok letters) = (w : Word) × IsWhole s w × (word_letters w ≡ letters) × AreWithin (state_events (closed_state s))
-Ends s place (Err (refused.Fault f)) =
+Ends s place (Err f) =
     ((f.cause ≡ cause.WordTooLong) × ClosesLong s f.place) ⊎
     ((f.place ≡ place) × (f.cause ≡ cause.Unexpected) × AreWithin (state_events (closed_state s)) × ((w : Word) → IsWhole s w → ⊥))
-Ends s place (Err refused.NoMemory) = ⊥
 
 -- the lexemes are read up to a place where no word goes on with the next one, and maybe closed there
 pub record HasStopped (xs : List Lexeme) (count : ℕ) (r : Reader) : Type 0 where

@@ -2,19 +2,20 @@
 //! least place.
 #![tactic(auto)]
 
+mod around;
+mod fault;
 mod laws;
 mod letters;
 mod lexeme;
 mod limits;
 mod read;
 mod reader;
-mod refusal;
 
+pub use fault::WordFault;
 pub use laws::{one_end, one_word, what_follows};
-pub use lexeme::Lexeme;
+pub use lexeme::{Lexeme, Lexemes, lexeme_of, lexemes_of};
 pub use limits::{DEPTH_LIMIT, WORD_LIMIT};
 pub use read::{WordRead, read_word};
-pub use refusal::{WordFault, WordRefused};
 
 #[cfg(test)]
 mod tests;

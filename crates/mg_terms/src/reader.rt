@@ -1,41 +1,19 @@
 //! A word is read lexeme by lexeme, from left to right, with the open brackets on a stack.
 
-ghost use Rattle.std.specs.Prelude.{◌≡◌, ◌≢◌, [], ◌∷◌, ◌++◌, ◌+◌, ◌*◌, ◌<◌, ◌≤◌, ℕ, Bool, List as ListOf, length, Err, IsTrue, IfOk, OnOk};
-ghost use Rattle.mg_terms.specs.declared.limits.TheConstants.{WORD_LIMIT};
+ghost use Rattle.std.specs.Prelude.{◌≡◌, [], ◌∷◌, ◌++◌, ◌+◌, ◌*◌, ◌<◌, ◌≤◌, ℕ, Bool, List as ListOf, length, IsTrue, IfOk, IfErr, OnOk};
+ghost use Rattle.mg_terms.specs.declared.limits.TheConstants.{WORD_LIMIT, DEPTH_LIMIT};
 
 ghost use Rattle.mg_terms.specs.Word.{Base, Word, base_letters, word_letters};
 ghost use Rattle.mg_terms.specs.Reading.{Before, Frame, State, state, start, front, behind, caret, minus, whole, round_step, comma_step, square_step, whole_step, begin_step, number_step, step, number_count, state_lexemes, state_events, AreWithin, closed_state};
 ghost use Rattle.mg_terms.specs.Reader.{kept, around, begun, before_letters, Has, IsReady, Took, Brings, Steps, HasStopped, Ends};
 ghost use Rattle.mg_terms.specs.Cause.{IsFirstCause};
 
+use crate::around::{Around, Begun, Bracket, OUTERMOST};
+use crate::fault::WordFault;
 use crate::letters::{commutator, product, within};
 use crate::lexeme::Lexeme;
 use crate::limits::DEPTH_LIMIT;
-use crate::refusal::{WordFault, WordRefused, refused};
 use mg_lex::{Cause, Mark};
-use mg_lists::List;
-use std::alloc::Global;
-
-/// What a word stands behind.
-#[derive(Clone, Copy)]
-pub(crate) enum Bracket {
-    /// It is the outermost word.
-    Outermost,
-    /// `(`
-    Round,
-    /// `[`
-    Left,
-    /// `[`, a word with so many letters, and the comma.
-    Right(u32),
-}
-
-/// A word that has begun.
-#[derive(Clone, Copy)]
-pub(crate) struct Begun {
-    pub(crate) bracket: Bracket,
-    /// How many letters its whole factors have.
-    pub(crate) letters: u32,
-}
 
 /// What was read last in the innermost word.
 #[derive(Clone, Copy)]
@@ -55,43 +33,40 @@ pub(crate) enum Position {
 /// What has been read of a word.
 #[derive(Drop)]
 pub(crate) struct Reader {
-    /// The words around the innermost one, the outermost first.
-    pub(crate) around: List<Begun>,
+    pub(crate) around: Around,
     pub(crate) word: Begun,
     pub(crate) position: Position,
 }
 
 impl Reader {
-    pub(crate) fn new(alloc: Global) -> Reader
+    pub(crate) fn new() -> Reader
         ensures { kept start ≡ result }
     {
         Reader {
-            around: List::new(alloc),
-            word: Begun {
-                bracket: Bracket::Outermost,
-                letters: 0,
-            },
+            around: Around::new(),
+            word: OUTERMOST,
             position: Position::Front,
         }
     }
 
     /// Takes an opening bracket.
-    fn open(&mut self, bracket: Bracket, place: usize) -> Result<bool, WordRefused>
+    fn open(&mut self, bracket: Bracket, place: usize) -> Result<bool, WordFault>
         ensures taken { IfOk result IsTrue }
         ensures room { OnOk result (length self.old.around < DEPTH_LIMIT) }
         ensures opened { OnOk result (self.new ≡ record {
             around = self.old.around ++ self.old.word ∷ [];
             word = record { bracket = bracket; letters = 0 };
             position = Position.Front }) }
-        ensures fault { (f : WordFault) → result ≡ Err (WordRefused.Fault f) →
-            (f.place ≡ place) × (f.cause ≡ Cause.TooMany) × (DEPTH_LIMIT ≤ length self.old.around) }
+        ensures fault { IfErr result (λ f.
+            (f.place ≡ place) × (f.cause ≡ Cause.TooMany) × (DEPTH_LIMIT ≤ length self.old.around)) }
     {
-        if self.around.as_slice().len() >= DEPTH_LIMIT {
-            return Err(refused(place, Cause::TooMany));
+        if self.around.depth() >= DEPTH_LIMIT {
+            return Err(WordFault {
+                place,
+                cause: Cause::TooMany,
+            });
         }
-        if self.around.push(self.word).is_err() {
-            return Err(WordRefused::NoMemory);
-        }
+        self.around.push(self.word);
         self.word = Begun {
             bracket,
             letters: 0,
@@ -112,7 +87,7 @@ impl Reader {
     }
 
     /// Takes the lexeme if a base begins with it.
-    fn begin(&mut self, lexeme: Lexeme, place: usize) -> Result<bool, WordRefused>
+    fn begin(&mut self, lexeme: Lexeme, place: usize) -> Result<bool, WordFault>
         ensures { (fs : ListOf Frame) (before : Before) → Has self.old fs (before_letters before) →
             IsReady (state fs (front before)) place →
             Brings (state_events (state fs (front before))) (begin_step fs before lexeme) place self.old self.new result }
@@ -165,7 +140,7 @@ impl Reader {
     }
 
     /// Takes a closing bracket behind a whole word.
-    fn close_square(&mut self, place: usize) -> Result<bool, WordRefused>
+    fn close_square(&mut self, place: usize) -> Result<bool, WordFault>
         ensures { (fs : ListOf Frame) (w : Word) → Has self.old fs (word_letters w) →
             IsReady (state fs (whole w)) place →
             Brings (state_events (state fs (whole w))) (square_step fs w) place self.old self.new result }
@@ -176,14 +151,17 @@ impl Reader {
                     self.close(letters);
                     Ok(true)
                 }
-                None => Err(refused(place, Cause::WordTooLong)),
+                None => Err(WordFault {
+                    place,
+                    cause: Cause::WordTooLong,
+                }),
             },
             _ => Ok(false),
         }
     }
 
     /// Takes the lexeme behind a whole word.
-    fn go_on(&mut self, lexeme: Lexeme, place: usize) -> Result<bool, WordRefused>
+    fn go_on(&mut self, lexeme: Lexeme, place: usize) -> Result<bool, WordFault>
         ensures { (fs : ListOf Frame) (w : Word) → Has self.old fs (word_letters w) →
             IsReady (state fs (whole w)) place →
             Brings (state_events (state fs (whole w))) (whole_step fs w lexeme) place self.old self.new result }
@@ -203,15 +181,14 @@ impl Reader {
     }
 
     /// Counts a power of a base, whose last lexeme stands at the place, as a factor.
-    fn grow(&mut self, base: u32, exponent: u64, place: usize) -> Result<(), WordRefused>
+    fn grow(&mut self, base: u32, exponent: u64, place: usize) -> Result<(), WordFault>
         ensures within { OnOk result (self.old.word.letters + base * exponent ≤ WORD_LIMIT) }
         ensures grown { OnOk result (self.new ≡ record {
             around = self.old.around;
             word = record { bracket = self.old.word.bracket; letters = self.old.word.letters + base * exponent };
             position = Position.Whole }) }
-        ensures fault { (f : WordFault) → result ≡ Err (WordRefused.Fault f) →
-            (f.place ≡ place) × (f.cause ≡ Cause.WordTooLong) × (WORD_LIMIT < self.old.word.letters + base * exponent) }
-        ensures no_memory { result ≢ Err WordRefused.NoMemory }
+        ensures fault { IfErr result (λ f. (f.place ≡ place) × (f.cause ≡ Cause.WordTooLong) ×
+            (WORD_LIMIT < self.old.word.letters + base * exponent)) }
     {
         match within(product(self.word.letters, base, exponent)) {
             Some(letters) => {
@@ -219,12 +196,15 @@ impl Reader {
                 self.position = Position::Whole;
                 Ok(())
             }
-            None => Err(refused(place, Cause::WordTooLong)),
+            None => Err(WordFault {
+                place,
+                cause: Cause::WordTooLong,
+            }),
         }
     }
 
     /// Takes the number of an exponent.
-    fn exponent(&mut self, base: u32, lexeme: Lexeme, place: usize) -> Result<bool, WordRefused>
+    fn exponent(&mut self, base: u32, lexeme: Lexeme, place: usize) -> Result<bool, WordFault>
         ensures { (fs : ListOf Frame) (before : Before) (b : Base) (negative : Bool) →
             Has self.old fs (before_letters before) → base ≡ base_letters b →
             number_count fs before b negative ≡ place → AreWithin (state_events (state fs (behind before b))) →
@@ -241,7 +221,7 @@ impl Reader {
     }
 
     /// Takes the lexeme behind a base.
-    fn behind_base(&mut self, base: u32, lexeme: Lexeme, place: usize) -> Result<bool, WordRefused>
+    fn behind_base(&mut self, base: u32, lexeme: Lexeme, place: usize) -> Result<bool, WordFault>
         requires { 1 ≤ place }
         ensures { (fs : ListOf Frame) (before : Before) (b : Base) →
             Has self.old fs (before_letters before) → base ≡ base_letters b →
@@ -257,7 +237,7 @@ impl Reader {
     }
 
     /// Takes the lexeme behind a caret.
-    fn behind_caret(&mut self, base: u32, lexeme: Lexeme, place: usize) -> Result<bool, WordRefused>
+    fn behind_caret(&mut self, base: u32, lexeme: Lexeme, place: usize) -> Result<bool, WordFault>
         ensures { (fs : ListOf Frame) (before : Before) (b : Base) →
             Has self.old fs (before_letters before) → base ≡ base_letters b →
             IsReady (state fs (caret before b)) place →
@@ -272,7 +252,7 @@ impl Reader {
     }
 
     /// Takes the lexeme at the place if a word goes on with it.
-    pub(crate) fn step(&mut self, lexeme: Lexeme, place: usize) -> Result<bool, WordRefused>
+    pub(crate) fn step(&mut self, lexeme: Lexeme, place: usize) -> Result<bool, WordFault>
         requires { (base : ℕ) → self.old.position ≡ Position.Base base → 1 ≤ place }
         ensures { (s : State) → kept s ≡ self.old → IsReady s place → Steps s lexeme place self.new result }
     {
@@ -286,11 +266,10 @@ impl Reader {
     }
 
     /// Takes lexemes as long as a word goes on with them, and tells how many.
-    pub(crate) fn read(&mut self, lexemes: &[Lexeme]) -> Result<usize, WordRefused>
+    pub(crate) fn read(&mut self, lexemes: &[Lexeme]) -> Result<usize, WordFault>
         requires { self.old ≡ kept start }
         ensures stopped { IfOk result (λ count. HasStopped lexemes.now count self.new) }
-        ensures refused { (f : WordFault) → result ≡ Err (WordRefused.Fault f) →
-            IsFirstCause lexemes.now f.place f.cause }
+        ensures refused { IfErr result (λ f. IsFirstCause lexemes.now f.place f.cause) }
     {
         for (place, lexeme) in lexemes.iter().enumerate() {
             if !self.step(*lexeme, place)? {
@@ -301,20 +280,24 @@ impl Reader {
     }
 
     /// How many letters the word has that ends before the place, behind a whole factor.
-    fn whole(&self, place: usize) -> Result<u32, WordRefused>
+    fn whole(&self, place: usize) -> Result<u32, WordFault>
         ensures { (s : State) → kept s ≡ self.now → closed_state s ≡ s → AreWithin (state_events s) → Ends s place result }
     {
+        let unexpected = WordFault {
+            place,
+            cause: Cause::Unexpected,
+        };
         let Position::Whole = self.position else {
-            return Err(refused(place, Cause::Unexpected));
+            return Err(unexpected);
         };
         let Bracket::Outermost = self.word.bracket else {
-            return Err(refused(place, Cause::Unexpected));
+            return Err(unexpected);
         };
         Ok(self.word.letters)
     }
 
     /// How many letters the word has that ends before the place.
-    pub(crate) fn end(&mut self, place: usize) -> Result<u32, WordRefused>
+    pub(crate) fn end(&mut self, place: usize) -> Result<u32, WordFault>
         requires { (base : ℕ) → self.old.position ≡ Position.Base base → 1 ≤ place }
         ensures { (s : State) → kept s ≡ self.old → IsReady s place → Ends s place result }
     {

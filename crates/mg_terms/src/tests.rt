@@ -1,6 +1,5 @@
 use super::*;
 use mg_lex::{Cause, Keyword, Mark};
-use std::alloc::Global;
 use std::test::*;
 
 const ROUND: Lexeme = Lexeme::Mark(Mark::OpenRound);
@@ -16,30 +15,28 @@ const ONE: Lexeme = Lexeme::Number(1);
 const IN: Lexeme = Lexeme::Keyword(Keyword::In);
 
 /// Whether a word of so many lexemes and letters stands at the front.
-fn is_word(alloc: Global, lexemes: &[Lexeme], count: usize, letters: u32) -> bool {
-    match read_word(alloc, lexemes) {
+fn is_word(lexemes: &[Lexeme], count: usize, letters: u32) -> bool {
+    match read_word(lexemes) {
         Ok(word) => word == WordRead { count, letters },
         Err(_) => false,
     }
 }
 
 /// Whether this is refused at the place.
-fn is_refused(alloc: Global, lexemes: &[Lexeme], place: usize, cause: Cause) -> bool {
-    match read_word(alloc, lexemes) {
-        Err(WordRefused::Fault(fault)) => fault == WordFault { place, cause },
-        _ => false,
+fn is_refused(lexemes: &[Lexeme], place: usize, cause: Cause) -> bool {
+    match read_word(lexemes) {
+        Err(fault) => fault == WordFault { place, cause },
+        Ok(_) => false,
     }
 }
 
 #[test]
 fn powers_are_counted(rt: HostRuntime) {
-    let alloc = rt.alloc();
     let hundred = Lexeme::Number(100);
     let square = Lexeme::Number(2);
-    assert!(rt; is_word(alloc, &[ROUND, NAME, CARET, hundred, END_ROUND, CARET, hundred], 7, 10_000));
+    assert!(rt; is_word(&[ROUND, NAME, CARET, hundred, END_ROUND, CARET, hundred], 7, 10_000));
     assert!(rt;
         is_refused(
-            alloc,
             &[
                 ROUND, ROUND, NAME, CARET, hundred, END_ROUND, CARET, hundred, END_ROUND, CARET, square
             ],
@@ -47,8 +44,8 @@ fn powers_are_counted(rt: HostRuntime) {
             Cause::WordTooLong
         )
     );
-    assert!(rt; is_word(alloc, &[ONE, CARET, Lexeme::Number(4_611_686_018_427_387_904)], 3, 0));
-    assert!(rt; is_refused(alloc, &[NAME, CARET, Lexeme::Number(10_001), IN], 2, Cause::WordTooLong));
-    assert!(rt; is_word(alloc, &[NAME, CARET, Lexeme::Number(10_000), NAME, CARET, Lexeme::Number(0), IN], 6, 10_000));
-    assert!(rt; is_refused(alloc, &[NAME, CARET, Lexeme::Number(10_000), NAME, IN], 3, Cause::WordTooLong));
+    assert!(rt; is_word(&[ONE, CARET, Lexeme::Number(4_611_686_018_427_387_904)], 3, 0));
+    assert!(rt; is_refused(&[NAME, CARET, Lexeme::Number(10_001), IN], 2, Cause::WordTooLong));
+    assert!(rt; is_word(&[NAME, CARET, Lexeme::Number(10_000), NAME, CARET, Lexeme::Number(0), IN], 6, 10_000));
+    assert!(rt; is_refused(&[NAME, CARET, Lexeme::Number(10_000), NAME, IN], 3, Cause::WordTooLong));
 }

@@ -1,18 +1,12 @@
-use Rattle.std.proofs.Common.{sym, ◌∙◌}
 use Rattle.std.proofs.lemmas.Result.{err_from_is_err_and}
 use Rattle.mg_terms.proofs.Reached.{stopped_word, stopped_refuses}
 use Rattle.mg_terms.proofs.read.read_word.Goals as goal
 
 pub returns-in_err-letters-clause-refused : goal.returns-in_err-letters-clause-refused
-returns-in_err-letters-clause-refused c = λ f e.
+returns-in_err-letters-clause-refused c =
     let p = err_from_is_err_and c.from_residual-in_err-letters.result c.from_residual-in_err-letters.ensures.1 in
     let has = c.in_ok-count.ensures.stopped in
-    stopped_refuses c.args.lexemes.now c.in_ok-count.count c.read.new.self c.in_err-letters.field-0.0 f (let same = sym p.1 ∙ e in cc (same, p.2)) has (c.in_err-letters.ensures has.seen has.keeps has.ready)
-
-pub returns-in_err-count-clause-refused : goal.returns-in_err-count-clause-refused
-returns-in_err-count-clause-refused c = λ f e.
-    let p = err_from_is_err_and c.from_residual.result c.from_residual.ensures.1 in
-    c.in_err-count.ensures.refused f (let same = sym p.1 ∙ e in cc (same, p.2))
+    rw (p.1, p.2) (stopped_refuses c.args.lexemes.now c.in_ok-count.count c.read.new.self c.in_err-letters.field-0.0 has (c.in_err-letters.ensures has.seen has.keeps has.ready))
 
 pub returns-clause-word : goal.returns-clause-word
 returns-clause-word c =

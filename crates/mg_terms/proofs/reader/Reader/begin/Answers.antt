@@ -1,7 +1,7 @@
 use Rattle.std.proofs.Common.{◌≡◌, ◌∷◌, refl, ap, ◌∙◌}
 use Rattle.mg_lex.specs.declared.mark.Mark.TheVariants as mark
 use Rattle.mg_terms.specs.declared.lexeme.Lexeme.TheVariants as lexeme
-use Rattle.mg_terms.specs.declared.reader.Bracket.TheVariants as bracket
+use Rattle.mg_terms.specs.declared.around.Bracket.TheVariants as bracket
 use Rattle.mg_terms.specs.Reading.{none, in_round, in_left, frame, front, state}
 use Rattle.mg_terms.proofs.Adding.{round_opened, square_opened}
 use Rattle.mg_terms.proofs.Taking.{one_taken, opened_brings}

@@ -10,4 +10,4 @@ returns-in-Some c = λ fs w has ready.
 pub returns-in-None : goal.returns-in-None
 returns-in-None c = λ fs w has ready.
     let long = subst (λ n. WORD_LIMIT < n) c.commutator.ensures c.in-None.ensures.none in
-    rw c.refused.ensures (refl, inl (refl, square_long fs w c.args.self.now c.in-Right.left c.args.place has c.in-Right.is long ready.0))
+    (refl, inl (refl, square_long fs w c.args.self.now c.in-Right.left c.args.place has c.in-Right.is long ready.0))

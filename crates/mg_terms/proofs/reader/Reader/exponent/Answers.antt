@@ -1,6 +1,5 @@
-use Rattle.std.proofs.Common.{Err, ap}
 use Rattle.std.proofs.lemmas.Result.{err_from_is_err_and}
-use Rattle.mg_terms.proofs.Taking.{number_taken, number_breaks_at}
+use Rattle.mg_terms.proofs.Taking.{number_taken, number_breaks}
 use Rattle.mg_terms.proofs.reader.Reader.exponent.Goals as goal
 
 pub returns-in_ok-grow-in-Number : goal.returns-in_ok-grow-in-Number
@@ -12,4 +11,4 @@ pub returns-in_err-grow-in-Number : goal.returns-in_err-grow-in-Number
 returns-in_err-grow-in-Number c = λ fs before b negative has same here within.
     let p = err_from_is_err_and c.from_residual.result c.from_residual.ensures.1 in
     rw (p.1, p.2)
-    (number_breaks_at fs before b negative c.in-Number.exponent c.args.base c.args.place c.args.self.now c.grow.new.self c.in_err-grow-in-Number.field-0.0 c.args.lexeme c.in-Number.is has same here (λ f e. c.in_err-grow-in-Number.ensures.fault f (ap Err e)))
+    (number_breaks fs before b negative c.in-Number.exponent c.args.base c.args.place c.args.self.now c.grow.new.self c.in_err-grow-in-Number.field-0.0 c.args.lexeme c.in-Number.is has same here c.in_err-grow-in-Number.ensures.fault)
