@@ -1,5 +1,5 @@
 -- The first cause that stands in a list, by where reading comes to.
-use Rattle.std.proofs.Common.{◌≡◌, ◌≢◌, ◌⊎◌, inl, inr, ⊎_elim, ℕ, suc, ◌+◌, ◌-◌, ◌<◌, ◌≤◌, List, [], ◌∷◌, ◌++◌, length, take, Option, Some, None, refl, sym, ap, subst, ◌∙◌, arith, append_assoc, append-nil, length-append}
+use Rattle.std.proofs.Common.{◌≡◌, ◌≢◌, ◌⊎◌, inl, inr, ⊎_elim, ℕ, suc, ◌+◌, ◌-◌, ◌<◌, ◌≤◌, List, [], ◌∷◌, ◌++◌, length, take, get_or, Option, Some, None, refl, sym, ap, subst, ◌∙◌, arith, append_assoc, append-nil, length-append}
 use Rattle.std.specs.List.{AllByRecursion, Contains}
 use Rattle.std.proofs.Math.Seq.{take-append_seam}
 use Rattle.std.proofs.lemmas.Bool.{cases_lt}
@@ -12,10 +12,10 @@ use Rattle.mg_terms.specs.declared.lexeme.Lexeme.{Lexeme}
 use Rattle.mg_terms.specs.declared.lexeme.Lexeme.TheVariants as lexeme
 use Rattle.mg_terms.specs.declared.limits.TheConstants.{WORD_LIMIT, DEPTH_LIMIT}
 use Rattle.mg_terms.specs.Word.{Base, bare, Word, word_lexemes, word_letters}
-use Rattle.mg_terms.specs.Event.{Event, opens, ends, word_events}
+use Rattle.mg_terms.specs.Event.{Event, opens, ends, word_events, IsWithin, AreWithin}
 use Rattle.mg_terms.specs.Beginning.{IsBeginning, IsWord}
 use Rattle.mg_terms.specs.Cause.{IsReach, Agrees, Shows, IsShown, Stands, IsFaultless, IsFirstCause}
-use Rattle.mg_terms.specs.Reading.{Before, Opened, in_round, in_left, in_right, Frame, frame, Stand, behind, whole, State, state, joined, step, run, start, frames_lexemes, state_lexemes, closed, closed_state, state_events, IsWithin, AreWithin, StopsAt, NoCaret, ClosesLong, TakesLong, TakesDeep}
+use Rattle.mg_terms.specs.Reading.{Before, Opened, in_round, in_left, in_right, Frame, frame, Stand, behind, whole, State, state, joined, step, run, start, frames_lexemes, state_lexemes, closed, closed_state, state_events, StopsAt, NoCaret, ClosesLong, TakesLong, TakesDeep}
 use Rattle.mg_terms.proofs.Machine.{ended, closed_ended}
 use Rattle.mg_terms.proofs.Unique.{word_reads}
 use Rattle.mg_terms.proofs.Beginnings.{run_reads, read_more, completed, completing, completed_lexemes, closing}
@@ -296,3 +296,28 @@ takes_deep front x ys s reads within deep =
           (all_among (OrFresh (OrDeep p deep.depth) (length (state_lexemes t))) (word_events 0 0 shown.word) shown.event all shown.among) shown.shows (omega arith))
         stands;
     }
+
+-- a cause of words is known by its number
+abbrev word_cause : ℕ → Cause
+word_cause n = get_or (cause.Unexpected ∷ cause.Unexpected ∷ cause.Unexpected ∷ cause.WordTooLong ∷ cause.TooMany ∷ []) (n - 3) cause.Unexpected
+
+event_number : (e : Event) (p : ℕ) (c : Cause) → Shows e p c → word_cause (cause_number c) ≡ c
+event_number (opens place depth) p c shows = subst (λ d. word_cause (cause_number d) ≡ d) (sym shows.0) refl
+event_number (ends count letters) p c shows = subst (λ d. word_cause (cause_number d) ≡ d) (sym shows.0) refl
+
+number_back : (xs : List Lexeme) (p : ℕ) (c : Cause) → Stands xs p c → word_cause (cause_number c) ≡ c
+number_back xs p c stands =
+    ⊎_elim (λ unexpected. subst (λ d. word_cause (cause_number d) ≡ d) (sym unexpected.0) refl)
+    (λ shown. event_number shown.event p c shown.shows) stands
+
+pub one_first : (xs : List Lexeme) (p q : ℕ) (c d : Cause) → IsFirstCause xs p c → IsFirstCause xs q d → (p ≡ q) × (c ≡ d)
+one_first xs p q c d a b =
+    let up = a.first q d b.stands in
+    let down = b.first p c a.stands in
+    ⊎_elim (λ less. ⊎_elim (λ more. absurd (omega arith)) (λ same. absurd (omega (arith, same.0))) down)
+    (λ same. ⊎_elim (λ more. absurd (omega (arith, same.0)))
+      (λ back.
+        let numbers : cause_number c ≡ cause_number d = omega (arith, same.1, back.1) in
+        (same.0, sym (number_back xs p c a.stands) ∙ ap word_cause numbers ∙ number_back xs q d b.stands))
+      down)
+    up

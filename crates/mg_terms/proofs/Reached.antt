@@ -12,7 +12,8 @@ use Rattle.mg_terms.specs.declared.fault.WordFault.{WordFault}
 use Rattle.mg_terms.specs.Word.{Word, word_lexemes, word_letters}
 use Rattle.mg_terms.specs.Cause.{IsReach, IsFaultless, IsFirstCause}
 use Rattle.mg_terms.specs.Read.{IsRead}
-use Rattle.mg_terms.specs.Reading.{Stand, behind, front, caret, minus, whole, State, state, step, run, start, state_lexemes, closed_state, state_events, AreWithin, StopsAt, NoCaret, ClosesLong, TakesLong, TakesDeep}
+use Rattle.mg_terms.specs.Event.{AreWithin}
+use Rattle.mg_terms.specs.Reading.{Stand, behind, front, caret, minus, whole, State, state, step, run, start, state_lexemes, closed_state, state_events, StopsAt, NoCaret, ClosesLong, TakesLong, TakesDeep}
 use Rattle.mg_terms.specs.Reader.{kept, IsReady, Takes, Steps, IsWhole, Ends, HasStopped}
 use Rattle.mg_terms.proofs.Beginnings.{read_more}
 use Rattle.mg_terms.proofs.Adding.{closed_lexemes}
@@ -136,12 +137,14 @@ stopped_word xs count letters r has word =
     let whole_list = take-append-drop count xs in
     let h = word_end (take count xs) (drop count xs) has.reached w has.runs has.stops (subst (λ s. AreWithin (state_events s)) same word.3) (sym same ∙ word.1) in
     let reach = subst (λ ys. IsReach ys (length (take count xs))) whole_list h.1 in
+    let within = subst (λ s. AreWithin (state_events s)) word.1 word.3 in
     (record {
       word = w;
       lexemes = h.0;
       letters = word.2;
+      within = within;
       reach = subst (IsReach xs) (length-take-le count xs has.inside) reach;
-    }, subst IsFaultless whole_list h.2, subst (λ n. n ≤ WORD_LIMIT) word.2 (whole_within [] w (subst (λ s. AreWithin (state_events s)) word.1 word.3)))
+    }, subst IsFaultless whole_list h.2, subst (λ n. n ≤ WORD_LIMIT) word.2 (whole_within [] w within))
 
 closed_short : (s : State) (p : ℕ) → ClosesLong (closed_state s) p → ⊥
 closed_short (state fs (front before)) p long = long

@@ -14,8 +14,8 @@ use Rattle.mg_terms.specs.declared.reader.Position.TheVariants as position
 use Rattle.mg_terms.specs.declared.reader.Reader.{Reader}
 use Rattle.mg_terms.specs.declared.fault.WordFault.{WordFault}
 use Rattle.mg_terms.specs.Word.{Base, name, one, round, commutator, Factor, bare, power, Word, single, times, star_lexemes, base_lexemes, factor_lexemes, word_lexemes, base_letters, factor_letters, word_letters}
-use Rattle.mg_terms.specs.Event.{Event, opens, ends, part, factor_events, word_events}
-use Rattle.mg_terms.specs.Reading.{Before, none, after, Opened, in_round, in_left, in_right, Frame, frame, Stand, front, behind, caret, minus, whole, State, state, joined, begin_step, round_step, square_step, whole_step, number_step, step, number_count, depth, frames_lexemes, before_lexemes, state_lexemes, frames_events, state_events, closed_state, IsWithin, AreWithin, TakesLong, TakesDeep}
+use Rattle.mg_terms.specs.Event.{Event, opens, ends, part, factor_events, word_events, IsWithin, AreWithin}
+use Rattle.mg_terms.specs.Reading.{Before, none, after, Opened, in_round, in_left, in_right, Frame, frame, Stand, front, behind, caret, minus, whole, State, state, joined, begin_step, round_step, square_step, whole_step, number_step, step, number_count, depth, frames_lexemes, before_lexemes, state_lexemes, frames_events, state_events, closed_state, TakesLong, TakesDeep}
 use Rattle.mg_terms.specs.Reader.{bracket_of, begun, before_letters, around, kept, Has, IsReady, Takes, Breaks, Brings, Steps, IsWhole, Ends}
 use Rattle.mg_terms.proofs.Machine.{closed_step}
 use Rattle.mg_terms.proofs.Adding.{front_known, front_place, whole_known, closed_adds, closed_lexemes, one_added, round_added, square_added, number_added, number_length, factor_length}

@@ -1,6 +1,8 @@
 -- Where brackets open in a word, and where its parts end.
-use Rattle.std.specs.Prelude.{ℕ, ◌+◌, List, [], ◌∷◌, ◌++◌, length}
+use Rattle.std.specs.Prelude.{ℕ, ◌+◌, ◌≤◌, List, [], ◌∷◌, ◌++◌, length}
+use Rattle.std.specs.List.{AllByRecursion}
 use Rattle.mg_terms.specs.declared.lexeme.Lexeme.{Lexeme}
+use Rattle.mg_terms.specs.declared.limits.TheConstants.{WORD_LIMIT, DEPTH_LIMIT}
 use Rattle.mg_terms.specs.Word.{Base, name, one, round, commutator, Factor, bare, power, Word, single, times, star_lexemes, base_lexemes, factor_lexemes, word_lexemes, base_letters, factor_letters, word_letters}
 
 -- A bracket opens at a place, and so many are open with it. Parentheses and brackets of commutators count
@@ -36,3 +38,11 @@ abbrev mutual
   word_events k d (times w star f) =
       word_events k d w ++ (factor_events (k + length (word_lexemes w ++ star_lexemes star)) d f ++
       part k (word_lexemes (times w star f)) (word_letters (times w star f)) ∷ [])
+
+-- within the limits are at most so many open brackets, and parts with at most so many letters
+abbrev pub IsWithin : Event → Type 0
+IsWithin (opens place depth) = depth ≤ DEPTH_LIMIT
+IsWithin (ends count letters) = letters ≤ WORD_LIMIT
+
+abbrev pub AreWithin : List Event → Type 0
+AreWithin es = AllByRecursion IsWithin es

@@ -12,8 +12,8 @@ use Rattle.mg_terms.specs.declared.reader.Position.TheVariants as position
 use Rattle.mg_terms.specs.declared.reader.Reader.{Reader}
 use Rattle.mg_terms.specs.declared.fault.WordFault.{WordFault}
 use Rattle.mg_terms.specs.Word.{Base, Word, base_letters, word_letters}
-use Rattle.mg_terms.specs.Event.{Event}
-use Rattle.mg_terms.specs.Reading.{Before, none, after, Opened, in_round, in_left, in_right, Frame, frame, Stand, front, behind, caret, minus, whole, State, state, step, run, start, StopsAt, state_lexemes, closed_state, state_events, AreWithin, ClosesLong, TakesLong, TakesDeep}
+use Rattle.mg_terms.specs.Event.{Event, AreWithin}
+use Rattle.mg_terms.specs.Reading.{Before, none, after, Opened, in_round, in_left, in_right, Frame, frame, Stand, front, behind, caret, minus, whole, State, state, step, run, start, StopsAt, state_lexemes, closed_state, state_events, ClosesLong, TakesLong, TakesDeep}
 
 -- the bracket that the innermost word stands behind
 abbrev pub bracket_of : List Frame → Bracket

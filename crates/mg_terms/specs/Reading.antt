@@ -1,6 +1,5 @@
 -- How a word is read, lexeme by lexeme. A state is a tree with an open end.
-use Rattle.std.specs.Prelude.{◌≡◌, ◌≢◌, ℕ, zero, suc, ◌+◌, ◌<◌, ◌≤◌, Bool, true, false, Option, Some, None, List, [], ◌∷◌, ◌++◌, length, option_and_then, Contains}
-use Rattle.std.specs.List.{AllByRecursion}
+use Rattle.std.specs.Prelude.{◌≡◌, ◌≢◌, ℕ, zero, suc, ◌+◌, ◌<◌, Bool, true, false, Option, Some, None, List, [], ◌∷◌, ◌++◌, length, option_and_then, Contains}
 use Rattle.mg_lex.specs.declared.mark.Mark.TheVariants as mark
 use Rattle.mg_terms.specs.declared.lexeme.Lexeme.{Lexeme}
 use Rattle.mg_terms.specs.declared.lexeme.Lexeme.TheVariants as lexeme
@@ -162,14 +161,6 @@ stand_events k d (whole w) = word_events k d w
 
 abbrev pub state_events : State → List Event
 state_events (state fs s) = frames_events fs ++ stand_events (length (frames_lexemes fs)) (depth fs) s
-
--- the event is within the limits
-abbrev pub IsWithin : Event → Type 0
-IsWithin (opens place d) = d ≤ DEPTH_LIMIT
-IsWithin (ends count letters) = letters ≤ WORD_LIMIT
-
-abbrev pub AreWithin : List Event → Type 0
-AreWithin es = AllByRecursion IsWithin es
 
 -- no word goes on with the next lexeme, if there is one
 abbrev pub StopsAt : State → List Lexeme → Type 0

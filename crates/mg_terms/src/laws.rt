@@ -1,10 +1,12 @@
 //! Laws of words. The functions do nothing; their clauses are the laws.
 
-ghost use Rattle.std.specs.Prelude.{◌≡◌, ◌∷◌, ◌++◌, ◌↔◌, List};
+ghost use Rattle.std.specs.Prelude.{◌≡◌, ◌∷◌, ◌++◌, ◌↔◌, ℕ, List};
 ghost use Rattle.mg_terms.specs.Word.{Word, word_lexemes};
 ghost use Rattle.mg_terms.specs.Beginning.{GoesOn, EndsBefore, CanFollow};
+ghost use Rattle.mg_terms.specs.Cause.{IsReach, IsFirstCause};
 
 use crate::lexeme::Lexeme;
+use mg_lex::Cause;
 
 /// The grammar is unambiguous: lexemes are one word only.
 pub fn one_word()
@@ -21,4 +23,11 @@ pub fn one_end()
 /// Which lexemes a word goes on with.
 pub fn what_follows()
     ensures { (w : Word) (x : Lexeme) → GoesOn w x ↔ CanFollow w x }
+{}
+
+/// How far words go in lexemes is one place, and so is that of the first cause that stands in them.
+pub fn one_place()
+    ensures reach { (xs : List Lexeme) (m n : ℕ) → IsReach xs m → IsReach xs n → m ≡ n }
+    ensures first { (xs : List Lexeme) (p q : ℕ) (c d : Cause) →
+        IsFirstCause xs p c → IsFirstCause xs q d → (p ≡ q) × (c ≡ d) }
 {}

@@ -4,7 +4,8 @@ ghost use Rattle.std.specs.Prelude.{◌≡◌, [], ◌∷◌, ◌++◌, ◌+◌,
 ghost use Rattle.mg_terms.specs.declared.limits.TheConstants.{WORD_LIMIT, DEPTH_LIMIT};
 
 ghost use Rattle.mg_terms.specs.Word.{Base, Word, base_letters, word_letters};
-ghost use Rattle.mg_terms.specs.Reading.{Before, Frame, State, state, start, front, behind, caret, minus, whole, round_step, comma_step, square_step, whole_step, begin_step, number_step, step, number_count, state_lexemes, state_events, AreWithin, closed_state};
+ghost use Rattle.mg_terms.specs.Event.{AreWithin};
+ghost use Rattle.mg_terms.specs.Reading.{Before, Frame, State, state, start, front, behind, caret, minus, whole, round_step, comma_step, square_step, whole_step, begin_step, number_step, step, number_count, state_lexemes, state_events, closed_state};
 ghost use Rattle.mg_terms.specs.Reader.{kept, around, begun, before_letters, Has, IsReady, Took, Brings, Steps, HasStopped, Ends};
 ghost use Rattle.mg_terms.specs.Cause.{IsFirstCause};
 
