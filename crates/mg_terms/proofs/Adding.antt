@@ -134,7 +134,7 @@ begin_adds_after fs w x =
     (ap (λ xs. length (frames_lexemes fs ++ xs)) (append-nil (word_lexemes w))) (begin_adds fs (after w false) x)
 
 whole_adds : (fs : List Frame) (w : Word) (x : Lexeme) → IfSome (whole_step fs w x) (λ t. Adds (whole_known fs w) (whole_count fs w) (state_events t))
-whole_adds fs w (lexeme.Mark mark.Star) = record { fresh = []; all = sym (append-nil (whole_known fs w)); later = tt; }
+whole_adds fs w (lexeme.Mark mark.Star) = record { fresh = []; all = sym (append-nil (whole_known fs w)); later = tt }
 whole_adds fs w (lexeme.Mark mark.CloseRound) = round_adds fs w
 whole_adds fs w (lexeme.Mark mark.Comma) = comma_adds fs w
 whole_adds fs w (lexeme.Mark mark.CloseSquare) = square_adds fs w
@@ -152,7 +152,7 @@ pub number_length : (fs : List Frame) (before : Before) (b : Base) (negative : B
     length (frames_lexemes fs) + length (word_lexemes (joined before (power b negative n))) ≡ number_count fs before b negative + 1
 number_length fs before b negative n =
     let lexemes : length (word_lexemes (joined before (power b negative n))) ≡ length (before_lexemes before) + (length (base_lexemes b) + (length (minus_lexemes negative) + 2)) =
-        ap length (joined_lexemes before (power b negative n)) ∙ simp length-append (omega arith) in
+    ap length (joined_lexemes before (power b negative n)) ∙ simp length-append (omega arith) in
     simp length-append (omega arith)
 
 pub factor_length : (fs : List Frame) (before : Before) (b : Base) (negative : Bool) (n : ℕ) →
@@ -201,7 +201,7 @@ step_adds (state fs (behind before b)) x other =
     subst (λ xs. IfSome (whole_step fs (joined before (bare b)) x) (λ t. Adds (state_events (state fs (whole (joined before (bare b))))) (length xs) (state_events t)))
     (closed_lexemes (state fs (behind before b))) (whole_adds fs (joined before (bare b)) x)
 step_adds (state fs (caret before b)) (lexeme.Mark mark.Minus) other =
-    record { fresh = []; all = sym (append-nil (state_events (state fs (caret before b)))); later = tt; }
+    record { fresh = []; all = sym (append-nil (state_events (state fs (caret before b)))); later = tt }
 step_adds (state fs (caret before b)) x other = number_adds fs before b false x
 step_adds (state fs (minus before b)) x other = number_adds fs before b true x
 step_adds (state fs (whole w)) x other = whole_adds fs w x

@@ -82,9 +82,9 @@ module _ (front ys : List Lexeme) (s : State) (reads : run start front ≡ Some 
   no_earlier p c low near shown_from reach_from q d stands =
       ⊎_elim (λ unexpected. inl (reach_from q unexpected.1))
       (λ shown.
-        let from = shown_from q d shown in
-        let number = number_shown (front ++ ys) q d shown in
-        ⊎_elim (λ less. inl less) (λ more. inr (omega arith, omega arith)) (cases_lt p q))
+      let from = shown_from q d shown in
+      let number = number_shown (front ++ ys) q d shown in
+      ⊎_elim (λ less. inl less) (λ more. inr (omega arith, omega arith)) (cases_lt p q))
       stands
 
 -- where reading stops within the limits, no event shows a cause
@@ -104,12 +104,15 @@ pub word_end : (front ys : List Lexeme) (s : State) (w : Word) → run start fro
     (word_lexemes w ≡ front) × IsReach (front ++ ys) (length front) × IsFaultless (front ++ ys)
 word_end front ys s w reads stops within at_end =
     let lexemes = whole_lexemes front s w reads at_end in
-    let reach = stop_reach front ys s reads stops in
-    (lexemes, reach, λ p c stands. ⊎_elim
-      (λ unexpected.
-        let same = one_reach (front ++ ys) (length front) p reach unexpected.1 in
-        unexpected.2 (w, lexemes ∙ sym (take-append_seam front ys) ∙ ap (λ n. take n (front ++ ys)) same))
-      (stop_shown front ys s reads stops within p c) stands)
+    let reach = stop_reach front ys s reads stops in (
+      lexemes,
+      reach,
+      λ p c stands. ⊎_elim
+          (λ unexpected.
+          let same = one_reach (front ++ ys) (length front) p reach unexpected.1 in
+          unexpected.2 (w, lexemes ∙ sym (take-append_seam front ys) ∙ ap (λ n. take n (front ++ ys)) same))
+          (stop_shown front ys s reads stops within p c) stands,
+    )
 
 -- elsewhere what comes next is unexpected
 word_state : (front : List Lexeme) (s : State) (w : Word) → run start front ≡ Some s → word_lexemes w ≡ front → closed_state s ≡ state [] (whole w)
@@ -125,8 +128,8 @@ unexpected_first front ys s reads stops within open_end =
     record {
       stands = inl (refl, reach, λ word. open_end word.0 (word_state front s word.0 reads (word.1 ∙ take-append_seam front ys)));
       first = λ q d stands. ⊎_elim
-        (λ unexpected. inr (one_reach (front ++ ys) (length front) q reach unexpected.1, subst (λ c. 3 ≤ cause_number c) (sym unexpected.0) (omega arith)))
-        (λ shown. absurd (stop_shown front ys s reads stops within q d shown)) stands;
+          (λ unexpected. inr (one_reach (front ++ ys) (length front) q reach unexpected.1, subst (λ c. 3 ≤ cause_number c) (sym unexpected.0) (omega arith)))
+          (λ shown. absurd (stop_shown front ys s reads stops within q d shown)) stands;
     }
 
 -- a word that agrees with the list and doesn't go on with a caret behind what was read
@@ -152,7 +155,7 @@ closes_here front ys fs before b reads reach =
     record {
       reach = length front;
       word = completed s;
-      agrees = record { reach = reach; rest = completing s; shared = lexemes ∙ ap (λ xs. xs ++ completing s) (sym (take-append_seam front ys)); };
+      agrees = record { reach = reach; rest = completing s; shared = lexemes ∙ ap (λ xs. xs ++ completing s) (sym (take-append_seam front ys)) };
       rest = completing s;
       lexemes = lexemes;
       no_caret = completing_no_caret fs before b;
@@ -168,7 +171,7 @@ closes_later front (y ∷ ys) n other reach past =
     record {
       reach = n;
       word = word.0;
-      agrees = record { reach = reach; rest = word.1; shared = word.2; };
+      agrees = record { reach = reach; rest = word.1; shared = word.2 };
       rest = y ∷ (take m ys ++ word.1);
       lexemes = word.2 ∙ ap (λ xs. xs ++ word.1) shared ∙ append_assoc front (y ∷ take m ys) word.1;
       no_caret = other;
@@ -205,8 +208,8 @@ closes_long front ys (state fs (behind before b)) p reads within other long =
         shows = (refl, long.0 ∙ sym (ap length (closed_lexemes s)) ∙ length-append (frames_lexemes fs) (word_lexemes w), long.1);
       });
       first = no_earlier front ys s reads p cause.WordTooLong (omega arith) (omega arith)
-        (λ q d shown. let from = shown_late front ys s reads within q d shown in omega arith)
-        (λ n reach. let from = read_shared front ys s reads n reach in omega arith);
+          (λ q d shown. let from = shown_late front ys s reads within q d shown in omega arith)
+          (λ n reach. let from = read_shared front ys s reads n reach in omega arith);
     }
 closes_long front ys _ p reads within other long = absurd long
 
@@ -233,7 +236,7 @@ module _ (front : List Lexeme) (x : Lexeme) (ys : List Lexeme) (s t : State) (re
       let h = reach_of ys (front ++ x ∷ []) t next_reads in
       let reach = subst (λ xs. IsReach xs h.0) next_list h.1 in
       let word = reach.begins in
-      let agrees : Agrees (front ++ x ∷ ys) h.0 word.0 = record { reach = reach; rest = word.1; shared = word.2; } in
+      let agrees : Agrees (front ++ x ∷ ys) h.0 word.0 = record { reach = reach; rest = word.1; shared = word.2 } in
       let rest = agrees_front (front ++ x ∷ []) ys t next_reads h.0 word.0 (subst (λ xs. Agrees xs h.0 word.0) (sym next_list) agrees) in
       let grows = word_grows word.0 rest.0 t (rest_runs word.0 (front ++ x ∷ []) rest.0 t rest.1 next_reads) in
       record {
@@ -251,8 +254,8 @@ takes_long front x ys s reads within long =
     record {
       stands = inr (next_shown front x ys s long.next reads long.takes (ends (length front + 1) long.letters) cause.WordTooLong long.among (refl, refl, long.long));
       first = no_earlier front (x ∷ ys) s reads (length front) cause.WordTooLong (omega arith) (omega arith)
-        (shown_fresh front (x ∷ ys) s reads within)
-        (next_reach front x ys s long.next reads long.takes);
+          (shown_fresh front (x ∷ ys) s reads within)
+          (next_reach front x ys s long.next reads long.takes);
     }
 
 -- an event that is within the limits or is the bracket that is one too many
@@ -264,7 +267,7 @@ unfolding OrDeep
 deep_shows p depth k e q d from shows before =
     ⊎_elim
     (λ old. ⊎_elim (λ small. absurd (within_shows e q d small shows))
-      (λ deep. let same = subst (λ f. Shows f q d) deep shows in inr (sym same.1, subst (λ c. 7 ≤ cause_number c) (sym same.0) (omega arith))) old)
+    (λ deep. let same = subst (λ f. Shows f q d) deep shows in inr (sym same.1, subst (λ c. 7 ≤ cause_number c) (sym same.0) (omega arith))) old)
     (λ fresh. let far = fresh_shows k e q d fresh shows in inl (omega arith)) from
 
 all_or_deep : (p depth : ℕ) (es : List Event) → AreWithin es → AllByRecursion (OrDeep p depth) (es ++ opens p depth ∷ [])
@@ -281,20 +284,20 @@ takes_deep front x ys s reads within deep =
     let e = opens p deep.depth in
     let among : Contains (state_events t) e = subst (λ es. Contains es e) (sym deep.adds) (Contains-push (state_events (closed_state s)) e) in
     let events : AllByRecursion (OrDeep p deep.depth) (state_events (closed_state t)) =
-        subst (λ u. AllByRecursion (OrDeep p deep.depth) (state_events u)) (sym deep.at_front)
-        (subst (AllByRecursion (OrDeep p deep.depth)) (sym deep.adds) (all_or_deep p deep.depth (state_events (closed_state s)) within)) in
+    subst (λ u. AllByRecursion (OrDeep p deep.depth) (state_events u)) (sym deep.at_front)
+    (subst (AllByRecursion (OrDeep p deep.depth)) (sym deep.adds) (all_or_deep p deep.depth (state_events (closed_state s)) within)) in
     record {
       stands = inr (next_shown front x ys s t reads deep.takes e cause.TooMany among (refl, refl, deep.deep));
       first = λ q d stands. ⊎_elim
-        (λ unexpected. inl (next_reach front x ys s t reads deep.takes q unexpected.1))
-        (λ shown.
+          (λ unexpected. inl (next_reach front x ys s t reads deep.takes q unexpected.1))
+          (λ shown.
           let rest = agrees_front (front ++ x ∷ []) ys t more shown.shared shown.word (subst (λ xs. Agrees xs shown.shared shown.word) (sym list) shown.agrees) in
           let all = fresh_events (OrDeep p deep.depth) shown.word rest.0 t (rest_runs shown.word (front ++ x ∷ []) rest.0 t rest.1 more) events in
           let count = step_count s x t deep.takes in
           let read = count_read front s reads in
           deep_shows p deep.depth (length (state_lexemes t)) shown.event q d
           (all_among (OrFresh (OrDeep p deep.depth) (length (state_lexemes t))) (word_events 0 0 shown.word) shown.event all shown.among) shown.shows (omega arith))
-        stands;
+          stands;
     }
 
 -- a cause of words is known by its number
@@ -316,8 +319,8 @@ one_first xs p q c d a b =
     let down = b.first p c a.stands in
     ⊎_elim (λ less. ⊎_elim (λ more. absurd (omega arith)) (λ same. absurd (omega (arith, same.0))) down)
     (λ same. ⊎_elim (λ more. absurd (omega (arith, same.0)))
-      (λ back.
-        let numbers : cause_number c ≡ cause_number d = omega (arith, same.1, back.1) in
-        (same.0, sym (number_back xs p c a.stands) ∙ ap word_cause numbers ∙ number_back xs q d b.stands))
-      down)
+    (λ back.
+    let numbers : cause_number c ≡ cause_number d = omega (arith, same.1, back.1) in
+    (same.0, sym (number_back xs p c a.stands) ∙ ap word_cause numbers ∙ number_back xs q d b.stands))
+    down)
     up

@@ -105,15 +105,15 @@ refusing xs k r new f inside has breaks =
     let count : length (take k xs) ≡ k = length-take-le k xs (omega arith) in
     subst (λ zs. IsFirstCause zs f.place f.cause) (split_here xs k lexeme.Name inside)
     (⊎_elim
-      (λ closes. subst (IsFirstCause (take k xs ++ x ∷ ys) f.place) (sym closes.1) (closes_long (take k xs) (x ∷ ys) s f.place has.runs has.within closes.0 closes.2))
-      (λ takes.
-        let here : length (take k xs) ≡ f.place = count ∙ sym takes.1.0 in
-        subst (λ p. IsFirstCause (take k xs ++ x ∷ ys) p f.cause) here
-        (⊎_elim
-          (λ long. subst (IsFirstCause (take k xs ++ x ∷ ys) (length (take k xs))) (sym long.0) (takes_long (take k xs) x ys s has.runs takes.0 (subst (TakesLong (step s x)) (sym count) long.1)))
-          (λ deep. subst (IsFirstCause (take k xs ++ x ∷ ys) (length (take k xs))) (sym deep.0) (takes_deep (take k xs) x ys s has.runs takes.0 (subst (TakesDeep (state_events (closed_state s)) (step s x)) (sym count) deep.1)))
-          takes.1.1))
-      breaks)
+    (λ closes. subst (IsFirstCause (take k xs ++ x ∷ ys) f.place) (sym closes.1) (closes_long (take k xs) (x ∷ ys) s f.place has.runs has.within closes.0 closes.2))
+    (λ takes.
+    let here : length (take k xs) ≡ f.place = count ∙ sym takes.1.0 in
+    subst (λ p. IsFirstCause (take k xs ++ x ∷ ys) p f.cause) here
+    (⊎_elim
+    (λ long. subst (IsFirstCause (take k xs ++ x ∷ ys) (length (take k xs))) (sym long.0) (takes_long (take k xs) x ys s has.runs takes.0 (subst (TakesLong (step s x)) (sym count) long.1)))
+    (λ deep. subst (IsFirstCause (take k xs ++ x ∷ ys) (length (take k xs))) (sym deep.0) (takes_deep (take k xs) x ys s has.runs takes.0 (subst (TakesDeep (state_events (closed_state s)) (step s x)) (sym count) deep.1)))
+    takes.1.1))
+    breaks)
 
 pub step_refuses : (xs : List Lexeme) (k : ℕ) (r new : Reader) (f : WordFault) → k < length xs → HasRead (take k xs) r → Brought xs k r new (Err f) → IsFirstCause xs f.place f.cause
 step_refuses xs k r new f inside has outcome = refusing xs k r new f inside has (brought xs k r new (Err f) inside has outcome)
@@ -137,14 +137,17 @@ stopped_word xs count letters r has word =
     let whole_list = take-append-drop count xs in
     let h = word_end (take count xs) (drop count xs) has.reached w has.runs has.stops (subst (λ s. AreWithin (state_events s)) same word.3) (sym same ∙ word.1) in
     let reach = subst (λ ys. IsReach ys (length (take count xs))) whole_list h.1 in
-    let within = subst (λ s. AreWithin (state_events s)) word.1 word.3 in
-    (record {
-      word = w;
-      lexemes = h.0;
-      letters = word.2;
-      within = within;
-      reach = subst (IsReach xs) (length-take-le count xs has.inside) reach;
-    }, subst IsFaultless whole_list h.2, subst (λ n. n ≤ WORD_LIMIT) word.2 (whole_within [] w within))
+    let within = subst (λ s. AreWithin (state_events s)) word.1 word.3 in (
+      record {
+        word = w;
+        lexemes = h.0;
+        letters = word.2;
+        within = within;
+        reach = subst (IsReach xs) (length-take-le count xs has.inside) reach;
+      },
+      subst IsFaultless whole_list h.2,
+      subst (λ n. n ≤ WORD_LIMIT) word.2 (whole_within [] w within),
+    )
 
 closed_short : (s : State) (p : ℕ) → ClosesLong (closed_state s) p → ⊥
 closed_short (state fs (front before)) p long = long
@@ -166,9 +169,9 @@ stopped_long : (xs : List Lexeme) (count p : ℕ) (r : Reader) (has : HasStopped
 stopped_long xs count p r has long =
     ⊎_elim
     (λ same.
-      let here = subst (λ s. ClosesLong s p) same long in
-      subst (λ ys. IsFirstCause ys p cause.WordTooLong) (take-append-drop count xs)
-      (closes_long (take count xs) (drop count xs) has.reached p has.runs (subst (λ s. AreWithin (state_events s)) same has.ready.1) (stops_no_caret has.reached (drop count xs) p has.stops here) here))
+    let here = subst (λ s. ClosesLong s p) same long in
+    subst (λ ys. IsFirstCause ys p cause.WordTooLong) (take-append-drop count xs)
+    (closes_long (take count xs) (drop count xs) has.reached p has.runs (subst (λ s. AreWithin (state_events s)) same has.ready.1) (stops_no_caret has.reached (drop count xs) p has.stops here) here))
     (λ shut. absurd (closed_short has.reached p (subst (λ s. ClosesLong s p) shut long)))
     has.closes
 
@@ -184,6 +187,6 @@ stopped_refuses xs count r f has outcome =
     ⊎_elim
     (λ long. subst (IsFirstCause xs f.place) (sym long.0) (stopped_long xs count f.place r has long.1))
     (λ unexpected.
-      subst (λ p. IsFirstCause xs p f.cause) (sym unexpected.0)
-      (subst (IsFirstCause xs count) (sym unexpected.1) (stopped_open xs count r has unexpected.2 unexpected.3)))
+    subst (λ p. IsFirstCause xs p f.cause) (sym unexpected.0)
+    (subst (IsFirstCause xs count) (sym unexpected.1) (stopped_open xs count r has unexpected.2 unexpected.3)))
     outcome

@@ -17,11 +17,11 @@ shorter xs ys h = (h.0, ys ++ h.1, h.2 ∙ append_assoc xs ys h.1)
 pub reach_past : (xs : List Lexeme) (n m : ℕ) → IsReach xs n → m ≤ length xs → IsBeginning (take m xs) → m ≤ n
 reach_past xs n m reach within begins =
     ⊎_elim (λ less.
-      let less : n < m = less in
-      let front = take-take (n + 1) m xs (omega arith) in
-      let parts = take-append-drop (n + 1) (take m xs) in
-      absurd (reach.no_more (omega arith)
-        (subst IsBeginning front (shorter (take (n + 1) (take m xs)) (drop (n + 1) (take m xs)) (subst IsBeginning (sym parts) begins)))))
+    let less : n < m = less in
+    let front = take-take (n + 1) m xs (omega arith) in
+    let parts = take-append-drop (n + 1) (take m xs) in
+    absurd (reach.no_more (omega arith)
+    (subst IsBeginning front (shorter (take (n + 1) (take m xs)) (drop (n + 1) (take m xs)) (subst IsBeginning (sym parts) begins)))))
     (λ more. more) (cases_lt n m)
 
 pub one_reach : (xs : List Lexeme) (m n : ℕ) → IsReach xs m → IsReach xs n → m ≡ n
@@ -60,8 +60,8 @@ reach_of [] front s e = (length front, stop_reach front [] s e tt)
 reach_of (y ∷ ys) front s e =
     ⊎_elim
     (λ next.
-      let h = reach_of ys (front ++ y ∷ []) next.0 (read_more front y s next.0 e next.1) in
-      (h.0, subst (λ xs. IsReach xs h.0) (append_assoc front (y ∷ []) ys) h.1))
+    let h = reach_of ys (front ++ y ∷ []) next.0 (read_more front y s next.0 e next.1) in
+    (h.0, subst (λ xs. IsReach xs h.0) (append_assoc front (y ∷ []) ys) h.1))
     (λ none. (length front, stop_reach front (y ∷ ys) s e none))
     (some_or_none (step s y))
 
@@ -76,6 +76,7 @@ reach_front front ys n past =
 
 pub agrees_front : (front ys : List Lexeme) (s : State) → run start front ≡ Some s → (n : ℕ) (w : Word) → Agrees (front ++ ys) n w → (rest : List Lexeme) × (word_lexemes w ≡ front ++ rest)
 agrees_front front ys s e n w agrees =
-    let past = read_shared front ys s e n agrees.reach in
-    (take (n - length front) ys ++ agrees.rest,
-     agrees.shared ∙ ap (λ xs. xs ++ agrees.rest) (reach_front front ys n past) ∙ append_assoc front (take (n - length front) ys) agrees.rest)
+    let past = read_shared front ys s e n agrees.reach in (
+      take (n - length front) ys ++ agrees.rest,
+      agrees.shared ∙ ap (λ xs. xs ++ agrees.rest) (reach_front front ys n past) ∙ append_assoc front (take (n - length front) ys) agrees.rest,
+    )

@@ -51,7 +51,7 @@ closing_late (state fs (minus before b)) = tt
 closing_late (state fs (whole w)) = tt
 
 closed_grows : (s : State) → Grows (state_events s) (length (state_lexemes s)) (state_events (closed_state s))
-closed_grows s = record { more = closing_events s; all = closed_adds s; later = closing_late s; }
+closed_grows s = record { more = closing_events s; all = closed_adds s; later = closing_late s }
 
 -- what one lexeme adds
 adds_grows : (s : State) (es : List Event) → Adds (state_events (closed_state s)) (length (state_lexemes s)) es → Grows (state_events s) (length (state_lexemes s)) es
@@ -66,7 +66,7 @@ adds_grows s es adds =
 step_grows : (s : State) (x : Lexeme) (t : State) → step s x ≡ Some t → Grows (state_events s) (length (state_lexemes s)) (state_events t)
 step_grows s (lexeme.Mark mark.Caret) t e =
     let same = if_some (λ t. (state_events t ≡ state_events s) × (closed_state t ≡ t)) (step s (lexeme.Mark mark.Caret)) t e (caret_adds s) in
-    record { more = []; all = same.0 ∙ sym (append-nil (state_events s)); later = tt; }
+    record { more = []; all = same.0 ∙ sym (append-nil (state_events s)); later = tt }
 step_grows s x t e =
     adds_grows s (state_events t) (if_some (λ t. Adds (state_events (closed_state s)) (length (state_lexemes s)) (state_events t)) (step s x) t e (step_adds s x (λ same. cc)))
 
@@ -93,7 +93,7 @@ run_grows (x ∷ xs) s u e =
 run_adds : (xs : List Lexeme) (s u : State) → NoCaret xs → run s xs ≡ Some u → Adds (state_events (closed_state s)) (length (state_lexemes s)) (state_events (closed_state u))
 run_adds [] s u other e =
     let same : s ≡ u = cc in
-    record { fresh = []; all = ap (λ v. state_events (closed_state v)) (sym same) ∙ sym (append-nil (state_events (closed_state s))); later = tt; }
+    record { fresh = []; all = ap (λ v. state_events (closed_state v)) (sym same) ∙ sym (append-nil (state_events (closed_state s))); later = tt }
 run_adds (x ∷ xs) s u other e =
     let next = chained (λ v. run v xs) (step s x) u e in
     let t = next.0 in
@@ -135,8 +135,8 @@ module _ (Q : Event → Type 0) where
       let grows = word_grows w rest s e in
       subst (AllByRecursion (OrLate Q k)) (sym grows.all)
       (all_append (OrLate Q k) (state_events s) grows.more
-        (all_weaker Q (OrLate Q k) (λ e h. inl h) (state_events s) holds)
-        (all_weaker (IsLate k) (OrLate Q k) (λ e h. inr h) grows.more grows.later))
+      (all_weaker Q (OrLate Q k) (λ e h. inl h) (state_events s) holds)
+      (all_weaker (IsLate k) (OrLate Q k) (λ e h. inr h) grows.more grows.later))
 
   closed_fresh : (w : Word) (rest : List Lexeme) (s : State) → NoCaret rest → run s rest ≡ Some (state [] (ended w)) → AllByRecursion Q (state_events (closed_state s)) → AllByRecursion (OrFresh Q (length (state_lexemes s))) (word_events 0 0 w)
   closed_fresh w rest s other e holds =
@@ -144,8 +144,8 @@ module _ (Q : Event → Type 0) where
       let adds = word_adds w rest s other e in
       subst (AllByRecursion (OrFresh Q k)) (sym adds.all)
       (all_append (OrFresh Q k) (state_events (closed_state s)) adds.fresh
-        (all_weaker Q (OrFresh Q k) (λ e h. inl h) (state_events (closed_state s)) holds)
-        (all_weaker (IsFresh k) (OrFresh Q k) (λ e h. inr h) adds.fresh adds.later))
+      (all_weaker Q (OrFresh Q k) (λ e h. inl h) (state_events (closed_state s)) holds)
+      (all_weaker (IsFresh k) (OrFresh Q k) (λ e h. inr h) adds.fresh adds.later))
 
   open_fresh : (w : Word) (rest : List Lexeme) (s : State) → run s (lexeme.Mark mark.Caret ∷ rest) ≡ Some (state [] (ended w)) → AllByRecursion Q (state_events s) → AllByRecursion (OrFresh Q (length (state_lexemes s))) (word_events 0 0 w)
   open_fresh w rest s e holds =
@@ -154,7 +154,7 @@ module _ (Q : Event → Type 0) where
       let t = next.0 in
       let same = if_some (λ t. (state_events t ≡ state_events s) × (closed_state t ≡ t)) (step s (lexeme.Mark mark.Caret)) t next.1 (caret_adds s) in
       let late = subst (λ n. AllByRecursion (OrLate Q n) (word_events 0 0 w)) (step_count s (lexeme.Mark mark.Caret) t next.1)
-          (late_events w rest t next.2 (subst (AllByRecursion Q) (sym same.0) holds)) in
+      (late_events w rest t next.2 (subst (AllByRecursion Q) (sym same.0) holds)) in
       all_weaker (OrLate Q (k + 1)) (OrFresh Q k) (λ e h. ⊎_elim (λ a. inl a) (λ b. inr (late_fresh k e b)) h) (word_events 0 0 w) late
 
   pub fresh_events : (w : Word) (rest : List Lexeme) (s : State) → run s rest ≡ Some (state [] (ended w)) → AllByRecursion Q (state_events (closed_state s)) → AllByRecursion (OrFresh Q (length (state_lexemes s))) (word_events 0 0 w)

@@ -78,15 +78,20 @@ opened_brings fs before b t place old new (Ok false) keeps adds at_front has rea
 opened_brings fs before b t place old new (Err f) keeps adds at_front has ready taken room opened fault =
     let deep = ap length has.0 ∙ depth_around fs in
     let over = fault.2 in
-    let here : front_place fs before ≡ place = sym (length-append (frames_lexemes fs) (before_lexemes before)) ∙ ready.0 in
-    (fault.0, inr (fault.1, record {
-      next = t;
-      takes = refl;
-      depth = depth fs + 1;
-      adds = adds ∙ ap (λ p. front_known fs before ++ opens p (depth fs + 1) ∷ []) here;
-      at_front = at_front;
-      deep = omega arith;
-    }))
+    let here : front_place fs before ≡ place = sym (length-append (frames_lexemes fs) (before_lexemes before)) ∙ ready.0 in (
+      fault.0,
+      inr (
+        fault.1,
+        record {
+          next = t;
+          takes = refl;
+          depth = depth fs + 1;
+          adds = adds ∙ ap (λ p. front_known fs before ++ opens p (depth fs + 1) ∷ []) here;
+          at_front = at_front;
+          deep = omega arith;
+        },
+      ),
+    )
 
 -- a bracket is closed: what its word leaves
 abbrev Closes : Reader → Reader → ℕ → Type 0
@@ -307,14 +312,14 @@ is_minus (state fs (whole w)) old base keeps at_minus = absurd (let here = ap (�
 minus_brings : (fs : List Frame) (before : Before) (b : Base) (x : Lexeme) (place base : ℕ) (old new : Reader) (result : Result Bool WordFault) → kept (state fs (minus before b)) ≡ old → IsReady (state fs (minus before b)) place →
     base ≡ base_letters b → Has old fs (before_letters before) →
     ((gs : List Frame) (outer : Before) (c : Base) (negative : Bool) → Has old gs (before_letters outer) → base ≡ base_letters c → number_count gs outer c negative ≡ place → AreWithin (state_events (state gs (behind outer c))) →
-      Brings (state_events (state gs (behind outer c))) (number_step gs outer c negative x) place old new result) →
+    Brings (state_events (state gs (behind outer c))) (number_step gs outer c negative x) place old new result) →
     Steps (state fs (minus before b)) x place new result
 minus_brings fs before b x place base old new result keeps ready same has brings =
     open_steps (state fs (minus before b)) x place old new result refl keeps ready.1 (brings fs before b true has same ready.0 ready.1)
 
 pub minus_steps : (s : State) (x : Lexeme) (place base : ℕ) (old new : Reader) (result : Result Bool WordFault) → kept s ≡ old → IsReady s place → old.position ≡ position.Minus base →
     ((gs : List Frame) (outer : Before) (c : Base) (negative : Bool) → Has old gs (before_letters outer) → base ≡ base_letters c → number_count gs outer c negative ≡ place → AreWithin (state_events (state gs (behind outer c))) →
-      Brings (state_events (state gs (behind outer c))) (number_step gs outer c negative x) place old new result) →
+    Brings (state_events (state gs (behind outer c))) (number_step gs outer c negative x) place old new result) →
     Steps s x place new result
 minus_steps s x place base old new result keeps ready at_minus brings =
     let h = is_minus s old base keeps at_minus in

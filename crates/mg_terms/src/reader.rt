@@ -2,7 +2,6 @@
 
 ghost use Rattle.std.specs.Prelude.{◌≡◌, [], ◌∷◌, ◌++◌, ◌+◌, ◌*◌, ◌<◌, ◌≤◌, ℕ, Bool, List as ListOf, length, IsTrue, IfOk, IfErr, OnOk};
 ghost use Rattle.mg_terms.specs.declared.limits.TheConstants.{WORD_LIMIT, DEPTH_LIMIT};
-
 ghost use Rattle.mg_terms.specs.Word.{Base, Word, base_letters, word_letters};
 ghost use Rattle.mg_terms.specs.Event.{AreWithin};
 ghost use Rattle.mg_terms.specs.Reading.{Before, Frame, State, state, start, front, behind, caret, minus, whole, round_step, comma_step, square_step, whole_step, begin_step, number_step, step, number_count, state_lexemes, state_events, closed_state};
@@ -55,9 +54,10 @@ impl Reader {
         ensures taken { IfOk result IsTrue }
         ensures room { OnOk result (length self.old.around < DEPTH_LIMIT) }
         ensures opened { OnOk result (self.new ≡ record {
-            around = self.old.around ++ self.old.word ∷ [];
-            word = record { bracket = bracket; letters = 0 };
-            position = Position.Front }) }
+          around = self.old.around ++ self.old.word ∷ [];
+          word = record { bracket = bracket; letters = 0 };
+          position = Position.Front;
+        }) }
         ensures fault { IfErr result (λ f.
             (f.place ≡ place) × (f.cause ≡ Cause.TooMany) × (DEPTH_LIMIT ≤ length self.old.around)) }
     {
@@ -185,9 +185,10 @@ impl Reader {
     fn grow(&mut self, base: u32, exponent: u64, place: usize) -> Result<(), WordFault>
         ensures within { OnOk result (self.old.word.letters + base * exponent ≤ WORD_LIMIT) }
         ensures grown { OnOk result (self.new ≡ record {
-            around = self.old.around;
-            word = record { bracket = self.old.word.bracket; letters = self.old.word.letters + base * exponent };
-            position = Position.Whole }) }
+          around = self.old.around;
+          word = record { bracket = self.old.word.bracket; letters = self.old.word.letters + base * exponent };
+          position = Position.Whole;
+        }) }
         ensures fault { IfErr result (λ f. (f.place ≡ place) × (f.cause ≡ Cause.WordTooLong) ×
             (WORD_LIMIT < self.old.word.letters + base * exponent)) }
     {
@@ -210,7 +211,7 @@ impl Reader {
             Has self.old fs (before_letters before) → base ≡ base_letters b →
             number_count fs before b negative ≡ place → AreWithin (state_events (state fs (behind before b))) →
             Brings (state_events (state fs (behind before b))) (number_step fs before b negative lexeme)
-                place self.old self.new result }
+            place self.old self.new result }
     {
         match lexeme {
             Lexeme::Number(exponent) => {
@@ -243,7 +244,7 @@ impl Reader {
             Has self.old fs (before_letters before) → base ≡ base_letters b →
             IsReady (state fs (caret before b)) place →
             Brings (state_events (state fs (caret before b))) (step (state fs (caret before b)) lexeme)
-                place self.old self.new result }
+            place self.old self.new result }
     {
         if lexeme.is(Mark::Minus) {
             self.position = Position::Minus(base);
