@@ -1,6 +1,6 @@
 -- Finite actions of presented groups, and what they refute. An action is a degree and a permutation of the points
 -- below it for each generator; words act by the products of these permutations, from the left.
-use Rattle.std.specs.Prelude.{◌≡◌, ◌≢◌, ℕ, zero, suc, ◌+◌, ◌<◌, ℤ, pos, negsuc, List, [], ◌∷◌, length, slice_index, slice_index_or}
+use Rattle.std.specs.Prelude.{◌≡◌, ◌≢◌, ℕ, zero, suc, ◌<◌, ℤ, pos, negsuc, List, [], ◌∷◌, length, slice_index, slice_index_or}
 use Rattle.std.specs.List.{AllByRecursion}
 use Rattle.mg_numbers.specs.Perms.{PermTuple, IsPermTuple}
 use Rattle.mg_present.specs.Presentation.{Group}
@@ -15,7 +15,7 @@ perm_of_generator action (suc n) = slice_index_or action.images n (identity acti
 -- the permutation of a letter: that of its generator, or the inverse of that
 abbrev pub perm_of_letter : PermTuple → ℤ → List ℕ
 perm_of_letter action (pos place) = perm_of_generator action place
-perm_of_letter action (negsuc n) = inverse_of (perm_of_generator action (n + 1))
+perm_of_letter action (negsuc n) = inverse_of (perm_of_generator action (suc n))
 
 -- the permutation of a word: the product of those of its letters, in the order in which they are written
 abbrev pub perm_of_word : PermTuple → List ℤ → List ℕ
