@@ -1,11 +1,11 @@
 -- Permutations as image lists: each point stands somewhere, products and inverses.
-use Rattle.std.proofs.Common.{◌≡◌, ◌≢◌, ℕ, zero, suc, ◌+◌, ◌/◌, ◌%◌, ◌<◌, ◌≤◌, true, false, List, length, map, get_or, All, refl, sym, ap, subst, ◌∙◌, inl, inr, arith}
+use Rattle.std.proofs.Common.{◌≡◌, ◌≢◌, ℕ, zero, suc, ◌+◌, ◌/◌, ◌%◌, ◌<◌, ◌≤◌, true, false, List, length, map, get_or, set, All, refl, sym, ap, subst, ◌∙◌, inl, inr, arith}
 use Rattle.std.specs.Prelude.{◌==◌}
 use Rattle.std.specs.List.{position_or_len, AllPairs}
 use Rattle.std.proofs.lemmas.Bool.Decides.{nat_tests, eqb_tells}
 use Rattle.std.proofs.lemmas.Bool.{cases_lt}
 use Rattle.std.proofs.lemmas.Nat.{div_below, mod_below}
-use Rattle.std.proofs.lemmas.List.{length-map, get_or-map, get_or_default, ext_get_or}
+use Rattle.std.proofs.lemmas.List.{get_or-set_same, get_or-set_other, length-map, get_or-map, get_or_default, ext_get_or}
 use Rattle.std.proofs.lemmas.List.Elements.{All-from_get_or}
 use Rattle.std.proofs.lemmas.List.FromFn.{length-range_with_len, get_or-range_with_len, length-map-range_with_len, get_or-map-range_with_len}
 use Rattle.std.proofs.lemmas.List.Sums.{position_or_len_is}
@@ -140,3 +140,20 @@ product-inverse_left d xs p =
     let q = IsPerm-inverse d xs p in
     same_points d (product_of (inverse_of xs) xs) (identity d) (length-product d (inverse_of xs) xs q) (length-range_with_len 0 d)
     (λ k h. at-product d (inverse_of xs) xs q k h ∙ ap (λ n. get_or xs n 0) (at-inverse xs k (omega (arith, p.count))) ∙ at-place d xs p k h ∙ sym (at-identity d k h))
+
+-- a list that takes each image back is the inverse
+pub inverse_from : (d : ℕ) (xs ys : List ℕ) → IsPerm d xs → length ys ≡ d → ((k : ℕ) → k < d → get_or ys (get_or xs k 0) 0 ≡ k) → ys ≡ inverse_of xs
+inverse_from d xs ys p e back =
+    same_points d ys (inverse_of xs) e (length-inverse xs ∙ p.count)
+    (λ k h. ap (λ n. get_or ys n 0) (sym (at-place d xs p k h)) ∙ back (place_of xs k) (place-below d xs p k h) ∙ sym (at-inverse xs k (omega (arith, p.count))))
+
+-- one image more is taken back
+pub taken_back : (d : ℕ) (xs ys : List ℕ) (n : ℕ) → IsPerm d xs → length ys ≡ d → n < d → ((k : ℕ) → k < n → get_or ys (get_or xs k 0) 0 ≡ k) → (k : ℕ) → k < n + 1 → get_or (set ys (get_or xs n 0) n) (get_or xs k 0) 0 ≡ k
+taken_back d xs ys n p e h back k l =
+    elim (cases_lt k n) [
+      | inl before ↦
+          get_or-set_other ys (get_or xs n 0) (get_or xs k 0) n 0 (perm-apart d xs p k n before h) ∙ back k before
+      | inr after ↦
+          let same : k ≡ n = omega arith in
+          ap (λ i. get_or (set ys (get_or xs n 0) n) (get_or xs i 0) 0) same ∙ get_or-set_same ys (get_or xs n 0) n 0 (omega (arith, e, perm-below d xs p n h)) ∙ sym same
+    ]

@@ -1,20 +1,20 @@
 -- Words act by products of permutations, and words that are the same by the same one; what that refutes.
-use Rattle.std.proofs.Common.{◌≡◌, ◌≢◌, ℕ, zero, suc, ◌<◌, ◌≤◌, Bool, true, false, ℤ, pos, negsuc, neg_ℤ, List, [], ◌∷◌, ◌++◌, length, get_or, All, refl, sym, ap, subst, ◌∙◌, inl, inr, append_assoc, arith}
+use Rattle.std.proofs.Common.{◌≡◌, ◌≢◌, ℕ, zero, suc, ◌+◌, ◌<◌, ◌≤◌, Bool, true, false, ℤ, pos, negsuc, neg_ℤ, List, [], ◌∷◌, ◌++◌, length, get_or, drop, All, refl, sym, ap, subst, ◌∙◌, inl, inr, append_assoc, arith}
 use Rattle.std.specs.Prelude.{Contains, slice_index_or}
 use Rattle.std.specs.List.{AllByRecursion}
-use Rattle.std.proofs.lemmas.List.{get_or_past}
+use Rattle.std.proofs.lemmas.List.{get_or_past, drop_more}
 use Rattle.std.proofs.lemmas.List.Elements.{All-from_recursion, All-contains, All-get_or}
 use Rattle.std.proofs.lemmas.Bool.{cases_lt}
 use Rattle.mg_words.specs.Word.{inv}
 use Rattle.mg_words.specs.Chain.{IsPiece, a_pair, a_relator, an_inverse, Inserts, Leads}
 use Rattle.mg_words.proofs.Chains.{inv-cons}
-use Rattle.mg_numbers.specs.Perms.{IsPerm, PermTuple}
+use Rattle.mg_numbers.specs.Perms.{IsPerm, PermTuple, IsPermTuple}
 use Rattle.mg_present.specs.Presentation.{Group}
 use Rattle.mg_present.specs.Ask.{Inquiry}
 use Rattle.mg_present.specs.Same.{Step, Same, signed, product, Lies, Holds}
 use Rattle.mg_action.specs.Permutation.{identity, product_of, inverse_of}
 use Rattle.mg_action.specs.Action.{perm_of_generator, perm_of_letter, perm_of_word, IsAction, image_of_zero, Refutes}
-use Rattle.mg_action.proofs.Permutations.{IsPerm-identity, IsPerm-product, IsPerm-inverse, at-identity, at-product, product-identity_left, product-identity_right, product-assoc, product-inverse_left, product-inverse_right}
+use Rattle.mg_action.proofs.Permutations.{same_points, IsPerm-identity, IsPerm-product, IsPerm-inverse, at-identity, at-product, product-identity_left, product-identity_right, product-assoc, product-inverse_left, product-inverse_right}
 
 module _ (action : PermTuple) (each : All (IsPerm action.degree) action.images) where
   abbrev d : ℕ
@@ -44,6 +44,10 @@ module _ (action : PermTuple) (each : All (IsPerm action.degree) action.images) 
   word-append [] v = sym (product-identity_left d (of v) (word-perm v))
   word-append (x ∷ u) v =
       ap (product_of (perm_of_letter action x)) (word-append u v) ∙ sym (product-assoc d (perm_of_letter action x) (of u) (of v) (letter-perm x) (word-perm u))
+
+  -- the first letter acts first
+  pub word-step : (x : ℤ) (w : List ℤ) (p : ℕ) → p < d → get_or (of (x ∷ w)) p 0 ≡ get_or (of w) (get_or (perm_of_letter action x) p 0) 0
+  word-step x w p h = at-product d (perm_of_letter action x) (of w) (letter-perm x) p h
 
   -- a letter and its inverse undo each other
   letter-pair : (x : ℤ) → product_of (perm_of_letter action x) (perm_of_letter action (neg_ℤ x)) ≡ identity d
@@ -112,6 +116,22 @@ module _ (action : PermTuple) (each : All (IsPerm action.degree) action.images) 
     led u v [] e = ap of e
     led u v (w ∷ words) h =
         elim h.0 as (λ _. of u ≡ of w) [ inl i ↦ inserted u w i | inr i ↦ sym (inserted w u i) ] ∙ led w v words h.1
+
+-- one more letter of a word
+pub image_step : (action : PermTuple) → IsPermTuple (length action.images) action → (word : List ℤ) (i p next target : ℕ) (x : ℤ) → i < length word → x ≡ get_or word i x → p < action.degree
+    → next ≡ get_or (perm_of_letter action x) p 0 → get_or (perm_of_word action (drop i word)) p 0 ≡ target → get_or (perm_of_word action (drop (i + 1) word)) next 0 ≡ target
+image_step action perms word i p next target x there is h letter rest =
+    let whole : drop i word ≡ x ∷ drop (i + 1) word = drop_more word i x there ∙ ap (λ y. y ∷ drop (i + 1) word) (sym is) in
+    ap (λ k. get_or (perm_of_word action (drop (i + 1) word)) k 0) letter ∙ sym (word-step action perms.perms x (drop (i + 1) word) p h) ∙ ap (λ w. get_or (perm_of_word action w) p 0) (sym whole) ∙ rest
+
+-- a word fixes each point where its permutation is the identity
+pub fixes_points : (action : PermTuple) → IsPermTuple (length action.images) action → (w : List ℤ) → ((k : ℕ) → k < action.degree → get_or (perm_of_word action w) k 0 ≡ k) → perm_of_word action w ≡ identity action.degree
+fixes_points action perms w fixed =
+    let d = action.degree in
+    same_points d (perm_of_word action w) (identity d) (word-perm action perms.perms w).count (IsPerm-identity d).count (λ k h. fixed k h ∙ sym (at-identity d k h))
+
+pub moves_a_point : (action : PermTuple) (w : List ℤ) (p image : ℕ) → p < action.degree → image ≡ get_or (perm_of_word action w) p 0 → image ≢ p → perm_of_word action w ≡ identity action.degree → ⊥
+moves_a_point action w p image h is other e = other (is ∙ ap (λ xs. get_or xs p 0) e ∙ at-identity action.degree p h)
 
 -- an action of a group takes words that are the same to the same permutation
 pub same_act_alike : (group : Group) (action : PermTuple) (u v : List ℤ) → IsAction group action → Same group u v → perm_of_word action u ≡ perm_of_word action v

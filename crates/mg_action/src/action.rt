@@ -137,6 +137,7 @@ impl Action {
         requires point { point < self.now.degree }
         ensures image { result ≡ slice_index (perm_of_letter self.now letter) point }
         ensures below { result < self.now.degree }
+        ensures perms { IsPermTuple (length self.now.images) self.now }
     {
         let place = (letter.generator as usize - 1) * self.degree as usize + point as usize;
         if letter.inverse {

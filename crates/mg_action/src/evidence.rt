@@ -1,5 +1,5 @@
 //! Whether permutations are an action of a group, and what an action refutes.
-ghost use Rattle.std.specs.Prelude.{◌≡◌, ◌↔◌, IsTrue, length};
+ghost use Rattle.std.specs.Prelude.{◌≡◌, ◌↔◌, ◌≤◌, IsTrue, length};
 ghost use Rattle.std.specs.List.{AllByRecursion};
 ghost use Rattle.mg_words.specs.Word.{IsOver, letters_of};
 ghost use Rattle.mg_action.specs.Permutation.{identity};
@@ -61,7 +61,8 @@ fn fixes_each_point(word: &[Letter], action: &Action) -> bool
 
 // Whether every word fixes the point 0.
 fn all_fix_zero(words: &[Word], action: &Action) -> bool
-    requires { AllByRecursion (IsOver (length action.now.images)) (letters_of words.now) }
+    requires points { 1 ≤ action.now.degree }
+    requires over { AllByRecursion (IsOver (length action.now.images)) (letters_of words.now) }
     ensures { IsTrue result ↔ AllByRecursion (λ w. image_of_zero action.now w ≡ 0) (letters_of words.now) }
 {
     for word in words {
