@@ -93,9 +93,9 @@ IsPerm-product d xs ys p q =
     perm_from d (product_of xs ys) (length-product d xs ys p)
     (λ k h. subst (λ n. n < d) (sym (at-product d xs ys p k h)) (perm-below d ys q (get_or xs k 0) (perm-below d xs p k h)))
     (λ i j a b same.
-        let l : i < d = omega arith in
-        let e : get_or ys (get_or xs i 0) 0 ≡ get_or ys (get_or xs j 0) 0 = sym (at-product d xs ys p i l) ∙ same ∙ at-product d xs ys p j b in
-        perm-apart d xs p i j a b (sym (place-at d ys q (get_or xs i 0) (perm-below d xs p i l)) ∙ ap (place_of ys) e ∙ place-at d ys q (get_or xs j 0) (perm-below d xs p j b)))
+    let l : i < d = omega arith in
+    let e : get_or ys (get_or xs i 0) 0 ≡ get_or ys (get_or xs j 0) 0 = sym (at-product d xs ys p i l) ∙ same ∙ at-product d xs ys p j b in
+    perm-apart d xs p i j a b (sym (place-at d ys q (get_or xs i 0) (perm-below d xs p i l)) ∙ ap (place_of ys) e ∙ place-at d ys q (get_or xs j 0) (perm-below d xs p j b)))
 
 pub product-identity_left : (d : ℕ) (xs : List ℕ) → IsPerm d xs → product_of (identity d) xs ≡ xs
 product-identity_left d xs p =
@@ -127,9 +127,9 @@ IsPerm-inverse d xs p =
     perm_from d (inverse_of xs) (length-inverse xs ∙ p.count)
     (λ k h. subst (λ n. n < d) (sym (at-inverse xs k (omega (arith, p.count)))) (place-below d xs p k h))
     (λ i j a b same.
-        let l : i < d = omega arith in
-        let e : place_of xs i ≡ place_of xs j = sym (at-inverse xs i (omega (arith, p.count))) ∙ same ∙ at-inverse xs j (omega (arith, p.count)) in
-        omega (arith, a, sym (at-place d xs p i l) ∙ ap (λ n. get_or xs n 0) e ∙ at-place d xs p j b))
+    let l : i < d = omega arith in
+    let e : place_of xs i ≡ place_of xs j = sym (at-inverse xs i (omega (arith, p.count))) ∙ same ∙ at-inverse xs j (omega (arith, p.count)) in
+    omega (arith, a, sym (at-place d xs p i l) ∙ ap (λ n. get_or xs n 0) e ∙ at-place d xs p j b))
 
 pub product-inverse_right : (d : ℕ) (xs : List ℕ) → IsPerm d xs → product_of xs (inverse_of xs) ≡ identity d
 product-inverse_right d xs p =

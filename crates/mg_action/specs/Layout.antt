@@ -5,9 +5,8 @@ use Rattle.mg_numbers.specs.Perms.{IsPerm, PermTuple, IsPermTuple}
 use Rattle.mg_numbers.specs.declared.blocks.TheConstants.{MOST_DEGREE}
 use Rattle.mg_action.specs.Permutation.{inverse_of}
 
--- the list is the image lists of some permutations, one after another
-pub record ArePerms (degree : ℕ) (xs : List ℕ) : Type 0 where
-  pub perms : List (List ℕ)
+-- the list is the image lists of these permutations, one after another
+pub record AreImages (degree : ℕ) (perms : List (List ℕ)) (xs : List ℕ) : Type 0 where
   pub each : All (IsPerm degree) perms
   pub joined : concat perms ≡ xs
 

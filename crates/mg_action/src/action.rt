@@ -1,12 +1,11 @@
 //! Actions as values.
-ghost use Rattle.std.specs.Prelude.{◌≡◌, ◌∷◌, [], ◌≤◌, ◌<◌, IfOk, length, replicate, slice_index};
-ghost use Rattle.std.specs.List.{concat};
+ghost use Rattle.std.specs.Prelude.{◌≡◌, ℕ, List, ◌∷◌, [], ◌≤◌, ◌<◌, IfOk, length, replicate, slice_index};
 ghost use Rattle.mg_words.specs.Letter.{IsLetterOf};
 ghost use Rattle.mg_words.specs.Word.{IsOver};
 ghost use Rattle.mg_numbers.specs.Perms.{IsPermTuple};
 ghost use Rattle.mg_action.specs.Action.{perm_of_letter, perm_of_word};
 ghost use Rattle.mg_action.specs.Number.{IsNumbered};
-ghost use Rattle.mg_action.specs.Layout.{ArePerms};
+ghost use Rattle.mg_action.specs.Layout.{AreImages};
 
 use crate::lists::{put_inverses, put_perms, with_room};
 use mg_numbers::{MOST_NUMBER, action_block, perm_places};
@@ -43,10 +42,9 @@ impl Action {
     /// The action with these image lists, which stand one after another.
     pub fn from_images(alloc: Global, degree: u32, images: &[u32]) -> Result<Action, NoMemory>
         requires points { 1 ≤ degree }
-        requires perms { ArePerms degree images.now }
-        ensures degree { IfOk result (λ action. action.degree ≡ degree) }
-        ensures images { IfOk result (λ action. concat action.images ≡ images.now) }
-        ensures perms { IfOk result (λ action. IsPermTuple (length action.images) action) }
+        requires perms { (perms : List (List ℕ)) × AreImages degree perms images.now }
+        ensures { (perms : List (List ℕ)) → AreImages degree perms images.now →
+            IfOk result (λ action. action ≡ record { degree = degree; images = perms }) }
     {
         let generators = images.len() / degree as usize;
         let mut own = with_room(alloc, generators, images.len())?;
@@ -64,8 +62,7 @@ impl Action {
     /// The action of so many generators on one point, which has number 1.
     pub fn of_one_point(alloc: Global, generators: u32) -> Result<Action, NoMemory>
         requires { generators ≤ MOST_GENERATORS }
-        ensures degree { IfOk result (λ action. action.degree ≡ 1) }
-        ensures images { IfOk result (λ action. action.images ≡ replicate generators (0 ∷ [])) }
+        ensures { IfOk result (λ action. action ≡ record { degree = 1; images = replicate generators (0 ∷ []) }) }
     {
         let points = [0; MOST_GENERATORS as usize];
         Action::from_images(alloc, 1, &points[..generators as usize])
@@ -89,7 +86,7 @@ impl Action {
 
     /// Lends the image lists, one after another.
     pub fn images(&self) -> &[u32]
-        ensures { result.now ≡ concat self.now.images }
+        ensures { AreImages self.now.degree self.now.images result.now }
     {
         self.images.as_slice()
     }

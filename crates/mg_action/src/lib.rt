@@ -11,3 +11,6 @@ pub use action::Action;
 pub use evidence::{is_action, refutes};
 pub use laws::{actions_and_numbers_correspond, refuted_goals_do_not_lie, same_words_act_alike};
 pub use mg_words::NoMemory;
+
+#[cfg(test)]
+mod tests;

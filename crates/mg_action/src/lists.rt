@@ -4,7 +4,7 @@ ghost use Rattle.std.specs.List.{AllZip, concat};
 ghost use Rattle.mg_numbers.specs.Blocks.{Earlier, IsNth};
 ghost use Rattle.mg_numbers.specs.Perms.{IsPerm, factorial};
 ghost use Rattle.mg_action.specs.Permutation.{inverse_of};
-ghost use Rattle.mg_action.specs.Layout.{ArePerms};
+ghost use Rattle.mg_action.specs.Layout.{AreImages};
 
 use mg_numbers::{MOST_DEGREE, perm_of};
 use mg_words::NoMemory;
@@ -32,27 +32,49 @@ pub(crate) fn put_perms(degree: u32, places: &[u64], list: &mut Vec<u32>)
 {
     list.clear();
     for &place in places {
-        let start = list.len();
-        push_zeros(degree as usize, list);
-        perm_of(place, degree, &mut list[start..]);
+        push_perm(place, degree, list);
     }
 }
 
 // Puts the inverses of the permutations that stand one after another.
 pub(crate) fn put_inverses(degree: u32, perms: &[u32], list: &mut Vec<u32>)
     requires points { 1 ≤ degree }
-    requires perms { ArePerms degree perms.now }
+    requires perms { (each : List (List ℕ)) × AreImages degree each perms.now }
     requires room { length perms.now ≤ vec_capacity list.old }
-    ensures inverses { (each : List (List ℕ)) → All (IsPerm degree) each → concat each ≡ perms.now →
+    ensures inverses { (each : List (List ℕ)) → AreImages degree each perms.now →
         list.new.items ≡ concat (map inverse_of each) }
     ensures capacity { vec_capacity list.old ≤ vec_capacity list.new }
 {
     list.clear();
     for perm in perms.chunks_exact(degree as usize) {
-        let start = list.len();
-        push_zeros(perm.len(), list);
-        put_inverse(perm, &mut list[start..]);
+        push_inverse(perm, list);
     }
+}
+
+// Appends the permutation at a place among those of the degree.
+fn push_perm(place: u64, degree: u32, list: &mut Vec<u32>)
+    requires there { place < factorial degree }
+    requires room { length list.old.items + degree ≤ vec_capacity list.old }
+    ensures perm { (perm : List ℕ) × (list.new.items ≡ list.old.items ++ perm) ×
+        IsNth (IsPerm degree) Earlier (place + 1) perm }
+    ensures capacity { vec_capacity list.old ≤ vec_capacity list.new }
+{
+    let start = list.len();
+    push_zeros(degree as usize, list);
+    perm_of(place, degree, &mut list[start..]);
+}
+
+// Appends the inverse of a permutation.
+fn push_inverse(perm: &[u32], list: &mut Vec<u32>)
+    requires perm { IsPerm (length perm.now) perm.now }
+    requires points { length perm.now < 2 ^ 32 }
+    requires room { length list.old.items + length perm.now ≤ vec_capacity list.old }
+    ensures inverse { list.new.items ≡ list.old.items ++ inverse_of perm.now }
+    ensures capacity { vec_capacity list.old ≤ vec_capacity list.new }
+{
+    let start = list.len();
+    push_zeros(perm.len(), list);
+    put_inverse(perm, &mut list[start..]);
 }
 
 // Puts the inverse of a permutation.

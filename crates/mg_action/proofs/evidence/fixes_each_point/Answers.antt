@@ -8,8 +8,7 @@ returns-then-image-point c =
     ((λ t. cc), λ e. absurd (moves_a_point c.args.action.now c.args.word.now c.loop-point.point c.image.result below c.image.ensures c.if-image-point.true e))
 
 pub returns : goal.returns
-returns c =
-    (
-      (λ t. fixes_points c.args.action.now c.degree-point-end.ensures.perms c.args.word.now (λ k h. c.loop-point.invariant k (omega (arith, c.degree-point-end.ensures.value)))),
-      λ e. refl,
-    )
+returns c = (
+  (λ t. fixes_points c.args.action.now c.degree-point-end.ensures.perms c.args.word.now (λ k h. c.loop-point.invariant k (omega (arith, c.degree-point-end.ensures.value)))),
+  λ e. refl,
+)

@@ -12,3 +12,8 @@ returns-clause-each_action c = perm_tuple_number
 
 pub returns-clause-each_number : goal.returns-clause-each_number
 returns-clause-each_number c = perm_tuple_at
+
+pub returns-clause-each_refuted : goal.returns-clause-each_refuted
+returns-clause-each_refuted c ask which action refutes =
+    let number = perm_tuple_number ask.group.generators action refutes.is_action.perms in
+    (number.0, number.1, record { action = action; numbered = number.2; goal = which; refutes = refutes })

@@ -6,3 +6,6 @@ returns-clause-goal c = refuted_does_not_lie
 
 pub returns-clause-ask : goal.returns-clause-ask
 returns-clause-ask c = refuted_does_not_hold
+
+pub returns-clause-number : goal.returns-clause-number
+returns-clause-number c ask n h = refuted_does_not_hold ask h.goal h.action h.refutes
