@@ -1,6 +1,5 @@
 -- Permutations that stand one after another: each image has its place, and each list is cut in one way.
-use Rattle.std.proofs.Common.{◌≡◌, ℕ, zero, suc, ◌+◌, ◌-◌, ◌*◌, ◌/◌, ◌<◌, ◌≤◌, true, false, ℤ, pos, negsuc, List, [], ◌∷◌, ◌++◌, length, map, get_or, take, drop, replicate, All, refl, sym, ap, subst, ◌∙◌, append_assoc, arith}
-use Rattle.std.specs.Prelude.{nat_abs}
+use Rattle.std.proofs.Common.{◌≡◌, ℕ, zero, suc, ◌+◌, ◌-◌, ◌*◌, ◌/◌, ◌<◌, ◌≤◌, ℤ, pos, negsuc, List, [], ◌∷◌, ◌++◌, length, map, get_or, take, drop, replicate, All, refl, sym, ap, subst, ◌∙◌, append_assoc, arith}
 use Rattle.std.specs.List.{concat, AllZip}
 use Rattle.std.specs.Simd.{first_chunks}
 use Rattle.std.proofs.Math.Nat.{suc-mul, mul-div_cancel}
@@ -8,9 +7,9 @@ use Rattle.std.proofs.Math.Numerals.{add-one}
 use Rattle.std.proofs.lemmas.List.{take-replicate, length-append, length-map, get_or_append_left, get_or-append-add, get_or-map, take_at, drop_at, take_more, append-nil}
 use Rattle.std.proofs.lemmas.List.Elements.{All-nil, All-cons, All-replicate, All-head, All-tail, All-get_or, All-weaker, All-map}
 use Rattle.std.proofs.lemmas.List.Folds.{concat-append}
-use Rattle.mg_words.specs.Letter.{number_of, IsLetterOf}
+use Rattle.mg_words.specs.Letter.{IsLetterOf}
 use Rattle.mg_numbers.specs.Blocks.{Earlier, IsNth}
-use Rattle.mg_numbers.specs.Perms.{IsPerm, PermTuple, IsPermTuple}
+use Rattle.mg_numbers.specs.Perms.{IsPerm, PermTuple}
 use Rattle.mg_numbers.specs.declared.blocks.TheConstants.{MOST_DEGREE}
 use Rattle.mg_action.specs.Permutation.{identity, inverse_of}
 use Rattle.mg_action.specs.Action.{perm_of_generator, perm_of_letter}

@@ -11,8 +11,8 @@ use Rattle.mg_words.proofs.Chains.{inv-cons}
 use Rattle.mg_numbers.specs.Perms.{IsPerm, PermTuple, IsPermTuple}
 use Rattle.mg_present.specs.Presentation.{Group}
 use Rattle.mg_present.specs.Ask.{Inquiry}
-use Rattle.mg_present.specs.Same.{Step, Same, signed, product, Lies, Holds}
-use Rattle.mg_action.specs.Permutation.{identity, product_of, inverse_of}
+use Rattle.mg_present.specs.Same.{Same, signed, product, Lies, Holds}
+use Rattle.mg_action.specs.Permutation.{identity, product_of}
 use Rattle.mg_action.specs.Action.{perm_of_generator, perm_of_letter, perm_of_word, IsAction, image_of_zero, Refutes}
 use Rattle.mg_action.proofs.Permutations.{same_points, IsPerm-identity, IsPerm-product, IsPerm-inverse, at-identity, at-product, product-identity_left, product-identity_right, product-assoc, product-inverse_left, product-inverse_right}
 

@@ -1,4 +1,4 @@
-use Rattle.std.proofs.Common.{◌≡◌, ◌<◌, refl, arith}
+use Rattle.std.proofs.Common.{◌<◌, refl, arith}
 use Rattle.mg_action.proofs.Words.{fixes_points, moves_a_point}
 use Rattle.mg_action.proofs.evidence.fixes_each_point.Goals as goal
 

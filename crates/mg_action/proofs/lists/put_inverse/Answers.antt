@@ -1,4 +1,4 @@
-use Rattle.std.proofs.Common.{◌≡◌, ◌<◌, ◌∙◌, length, arith}
+use Rattle.std.proofs.Common.{◌∙◌, length, arith}
 use Rattle.std.proofs.lemmas.List.{length-set}
 use Rattle.mg_action.proofs.Permutations.{inverse_from, taken_back}
 use Rattle.mg_action.proofs.lists.put_inverse.Goals as goal

@@ -1,10 +1,10 @@
-use Rattle.std.proofs.Common.{◌≡◌, ◌++◌, ◌∙◌, ◌+◌, List, ℕ, All, [], length, ap, sym, subst, refl, append-nil, arith}
+use Rattle.std.proofs.Common.{◌≡◌, ◌∙◌, length, ap, sym, subst, arith}
 use Rattle.std.specs.Slice.Iter.{chunks_exact_rest, chunks_exact_size}
 use Rattle.std.proofs.lemmas.List.{length-append}
 use Rattle.mg_numbers.specs.Perms.{IsPerm}
 use Rattle.mg_action.specs.Permutation.{inverse_of}
 use Rattle.mg_action.proofs.Permutations.{length-inverse}
-use Rattle.mg_action.proofs.Rows.{long_perms, first_perm, all_inverses, inverse_more, no_rows_left}
+use Rattle.mg_action.proofs.Rows.{first_perm, all_inverses, inverse_more, no_rows_left}
 use Rattle.mg_action.proofs.lists.put_inverses.Goals as goal
 
 pub loop-perm-init : goal.loop-perm-init

@@ -1,4 +1,4 @@
-use Rattle.std.proofs.Common.{◌≡◌, ◌++◌, ◌∷◌, [], ◌∙◌, ap, sym, arith}
+use Rattle.std.proofs.Common.{◌++◌, ◌∷◌, [], ◌∙◌, ap, sym, arith}
 use Rattle.mg_action.proofs.Rows.{perm_more, joined_more, length_more}
 use Rattle.mg_action.proofs.lists.put_perms.Goals as goal
 

@@ -1,4 +1,4 @@
-use Rattle.std.proofs.Common.{◌≡◌, sym, ◌∙◌, slice_index}
+use Rattle.std.proofs.Common.{sym, ◌∙◌, slice_index}
 use Rattle.std.proofs.lemmas.List.{at_drop_all}
 use Rattle.mg_action.specs.Action.{perm_of_word}
 use Rattle.mg_action.proofs.Permutations.{at-identity}
