@@ -2,7 +2,7 @@
 use Rattle.std.proofs.Common.{◌≡◌, ◌≢◌, ℕ, zero, suc, ◌+◌, ◌<◌, ◌≤◌, Bool, true, false, ℤ, pos, negsuc, neg_ℤ, List, [], ◌∷◌, ◌++◌, length, get_or, drop, All, refl, sym, ap, subst, ◌∙◌, inl, inr, append_assoc, arith}
 use Rattle.std.specs.Prelude.{Contains, slice_index_or}
 use Rattle.std.specs.List.{AllByRecursion}
-use Rattle.std.proofs.lemmas.List.{get_or_past, drop_more}
+use Rattle.std.proofs.lemmas.List.{get_or_past, drop_more, drop_all}
 use Rattle.std.proofs.lemmas.List.Elements.{All-from_recursion, All-contains, All-get_or}
 use Rattle.std.proofs.lemmas.Bool.{cases_lt}
 use Rattle.mg_words.specs.Word.{inv}
@@ -118,11 +118,16 @@ module _ (action : PermTuple) (each : All (IsPerm action.degree) action.images) 
         elim h.0 as (λ _. of u ≡ of w) [ inl i ↦ inserted u w i | inr i ↦ sym (inserted w u i) ] ∙ led w v words h.1
 
 -- one more letter of a word
-pub image_step : (action : PermTuple) → IsPermTuple (length action.images) action → (word : List ℤ) (i p next target : ℕ) (x : ℤ) → i < length word → x ≡ get_or word i x → p < action.degree
-    → next ≡ get_or (perm_of_letter action x) p 0 → get_or (perm_of_word action (drop i word)) p 0 ≡ target → get_or (perm_of_word action (drop (i + 1) word)) next 0 ≡ target
-image_step action perms word i p next target x there is h letter rest =
+pub image_step : (action : PermTuple) (word : List ℤ) (i p next target : ℕ) (x : ℤ) → next ≡ get_or (perm_of_letter action x) p 0 → x ≡ get_or word i x → i < length word → p < action.degree → IsPermTuple (length action.images) action
+    → get_or (perm_of_word action (drop i word)) p 0 ≡ target → get_or (perm_of_word action (drop (i + 1) word)) next 0 ≡ target
+image_step action word i p next target x letter is there h perms rest =
     let whole : drop i word ≡ x ∷ drop (i + 1) word = drop_more word i x there ∙ ap (λ y. y ∷ drop (i + 1) word) (sym is) in
     ap (λ k. get_or (perm_of_word action (drop (i + 1) word)) k 0) letter ∙ sym (word-step action perms.perms x (drop (i + 1) word) p h) ∙ ap (λ w. get_or (perm_of_word action w) p 0) (sym whole) ∙ rest
+
+-- and after the last
+pub image_end : (action : PermTuple) (word : List ℤ) (i p target : ℕ) → get_or (perm_of_word action (drop i word)) p 0 ≡ target → length word ≤ i → p < action.degree → p ≡ target
+image_end action word i p target rest past h =
+    sym (at-identity action.degree p h) ∙ (ap (λ w. get_or (perm_of_word action w) p 0) (sym (drop_all i word past)) ∙ rest)
 
 -- a word fixes each point where its permutation is the identity
 pub fixes_points : (action : PermTuple) → IsPermTuple (length action.images) action → (w : List ℤ) → ((k : ℕ) → k < action.degree → get_or (perm_of_word action w) k 0 ≡ k) → perm_of_word action w ≡ identity action.degree

@@ -116,14 +116,15 @@ impl Action {
     }
 
     // Where the letters of a word take a point, one after another.
+    #[tactic(auto, using(crate::proofs::Words::image_step, crate::proofs::Words::image_end))]
     pub(crate) fn image(&self, word: &[Letter], point: u32) -> u32
         requires over { IsOver (length self.now.images) word.now }
         requires point { point < self.now.degree }
         ensures { result ≡ slice_index (perm_of_word self.now word.now) point }
     {
         let mut image = point;
-        for &letter in word {
-            image = self.letter_image(letter, image);
+        for place in 0..word.len() {
+            image = self.letter_image(word[place], image);
         }
         image
     }
