@@ -10,3 +10,6 @@ pub use evidence::{is_map, refutes};
 pub use laws::{maps_and_numbers_correspond, refuted_goals_do_not_lie, same_words_sum_alike};
 pub use mg_words::NoMemory;
 pub use residues::Residues;
+
+#[cfg(test)]
+mod tests;

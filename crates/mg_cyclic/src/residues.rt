@@ -1,5 +1,5 @@
 //! Maps to residues as values.
-ghost use Rattle.std.specs.Prelude.{◌≡◌, ◌≤◌, ◌<◌, IfOk, All, length, replicate};
+ghost use Rattle.std.specs.Prelude.{◌≡◌, ◌+◌, ◌%◌, ◌≤◌, ◌<◌, IfOk, All, length, replicate};
 ghost use Rattle.mg_words.specs.Letter.{IsLetterOf};
 ghost use Rattle.mg_words.specs.Word.{IsOver};
 ghost use Rattle.mg_numbers.specs.Residues.{IsResidueTuple};
@@ -89,6 +89,7 @@ impl Residues {
     }
 
     // The residue of a word.
+    #[tactic(auto, using(crate::proofs::Sums::residue_more))]
     pub(crate) fn residue(&self, word: &[Letter]) -> u32
         requires { IsOver (length self.now.residues) word.now }
         ensures { result ≡ residue_of_word self.now word.now }
