@@ -1,2 +1,4 @@
 pub mod Claim
+pub mod Records
 pub mod Validity
+pub mod Values
