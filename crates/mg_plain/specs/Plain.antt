@@ -1,5 +1,5 @@
 -- Searches that test the objects of a procedure in the order of their numbers, and the turns that each may make.
-use Rattle.std.specs.Prelude.{◌≡◌, ℕ, ◌+◌, Bool, true, Some, List, [], ◌∷◌}
+use Rattle.std.specs.Prelude.{◌≡◌, ℕ, ◌+◌, ◌<◌, ◌≤◌, Bool, true, Some, List, [], ◌∷◌}
 use Rattle.mg_turn.specs.declared.outcome.Outcome.{Outcome}
 use Rattle.mg_turn.specs.declared.outcome.TurnEnd.{TurnEnd}
 use Rattle.mg_turn.specs.declared.outcome.TurnEnd.TheVariants.{More, Found, Closed, Idle, Stopped, Full}
@@ -26,6 +26,10 @@ pub record Plain : Type 0 where
 abbrev pub AcceptedBy : Procedure → Inquiry → ℕ → Type 0
 AcceptedBy Derive ask n = AcceptedAt ask n
 AcceptedBy _ ask n = ⊥
+
+-- some number above `low` and up to `high` has its object accepted
+abbrev pub SomeAccepted : Procedure → Inquiry → ℕ → ℕ → Type 0
+SomeAccepted procedure ask low high = (n : ℕ) × (low < n) × (n ≤ high) × AcceptedBy procedure ask n
 
 -- what a search publishes where the object with this number is accepted: the Ask settled by that object
 abbrev pub Publishes : Procedure → Inquiry → ℕ → List Fact → Type 0

@@ -1,8 +1,14 @@
-//! Searches that test numbered objects one after another. So far these are the definitions.
+//! Searches that test numbered objects one after another.
 #![tactic(auto)]
 
 mod laws;
+mod plain;
 
 pub use laws::{
     a_first_search_has_tested_nothing, plain_turns_are_sound, turns_keep_what_is_searched,
 };
+pub use mg_core::NoMemory;
+pub use plain::{Plain, StartRefused};
+
+#[cfg(test)]
+mod tests;

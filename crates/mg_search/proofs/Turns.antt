@@ -11,7 +11,8 @@ use Rattle.mg_present.specs.Ask.{Inquiry}
 use Rattle.mg_certs.specs.Claim.{Fact}
 use Rattle.mg_certs.specs.Validity.{recording}
 use Rattle.mg_plain.specs.Plain.{Plain, IsPlain, searching as plain_searching}
-use Rattle.mg_plain.proofs.Turns.{plain_sound, turn_procedure, started_searched, turn_searched}
+use Rattle.mg_plain.specs.Sounds.{plain_sound}
+use Rattle.mg_plain.proofs.Turns.{turn_procedure, started_searched, turn_searched}
 use Rattle.mg_search.specs.Search.{Search, plain, procedure_of, is_open, SearchTurn, Opens, InRow, Applies, searching}
 
 -- what an end says of a plain search it says of it as a search

@@ -1,4 +1,4 @@
-use Rattle.mg_plain.proofs.Turns.{plain_sound}
+use Rattle.mg_plain.specs.Sounds.{plain_sound}
 use Rattle.mg_plain.proofs.laws.plain_turns_are_sound.Goals as goal
 
 pub returns : goal.returns
