@@ -1,5 +1,6 @@
 -- Turns of plain searches are sound: what a log and a run ask of them.
-use Rattle.std.proofs.Common.{◌≡◌, ℕ, ◌+◌, ◌≤◌, List, refl, ap, sym, subst, arith, lit≤}
+use Rattle.std.proofs.Common.{◌≡◌, ℕ, ◌+◌, ◌≤◌, List, refl, ap, sym, subst, le_refl, lit≤}
+use Rattle.std.proofs.Math.Nat.{not-suc-le_self}
 use Rattle.std.specs.List.{AllByRecursion}
 use Rattle.mg_core.specs.declared.entries.Facts.{Facts}
 use Rattle.mg_turn.specs.declared.outcome.TurnEnd.{TurnEnd}
@@ -31,7 +32,7 @@ published_settles Nielsen ask n records p = absurd p
 published_settles Recall ask n records p = absurd p
 
 end_within : (search : Plain) (units spent : ℕ) (end : TurnEnd Fact) → PlainEnd search units spent end → spent ≤ units
-end_within search units spent More h = let e = h.all in omega arith
+end_within search units spent More h = subst (λ (n : ℕ). spent ≤ n) h.all (le_refl spent)
 end_within search units spent (Found records) h = h.0.within
 end_within search units spent (Stopped seen) h = h.0.within
 end_within search units spent (Closed records) h = absurd h
@@ -49,7 +50,7 @@ end_valid search units spent (Full what count) h = absurd h
 end_fits : (search : Plain) (units : ℕ) (facts : Facts Fact) (spent : ℕ) (end : TurnEnd Fact) → 1 ≤ units → PlainEnd search units spent end → EndFits recording searching search units facts spent end
 end_fits search units facts spent More some h = (subst (λ n. 1 ≤ n) (sym h.all) some, λ _. h.all)
 end_fits search units facts spent (Found records) some h = published_settles search.procedure search.ask (search.cursor + spent) records h.1
-end_fits search units facts spent (Stopped seen) some h = (h.1, h.2, λ wants. absurd (omega arith))
+end_fits search units facts spent (Stopped seen) some h = (h.1, h.2, λ wants. absurd (not-suc-le_self 0 wants))
 end_fits search units facts spent (Closed records) some h = absurd h
 end_fits search units facts spent Idle some h = absurd h
 end_fits search units facts spent (Full what count) some h = absurd h
