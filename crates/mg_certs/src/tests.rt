@@ -76,12 +76,11 @@ fn claims_settle_their_ask(rt: HostRuntime) -> Result<(), Fail> {
 
 // Whether YES by these symbols is refused, and the Ask and the symbols come back.
 fn comes_back(alloc: Global, symbols: &[Symbol]) -> Result<bool, NoMemory> {
-    match claimed(alloc, symbols) {
-        Err(YesRefused::NotAccepted(asked, Yes::Derivation(text))) => {
-            Ok(asked == ask(alloc)? && text.symbols() == symbols)
-        }
-        _ => Ok(false),
-    }
+    let Err(YesRefused::NotAccepted(asked, certificate)) = claimed(alloc, symbols) else {
+        return Ok(false);
+    };
+    let Yes::Derivation(text) = &certificate;
+    Ok(asked == ask(alloc)? && text.symbols() == symbols)
 }
 
 #[test]

@@ -1,5 +1,5 @@
 -- What turns of plain searches pass and publish.
-use Rattle.std.proofs.Common.{◌≡◌, ℕ, ◌+◌, ◌-◌, ◌≤◌, Bool, true, false, List, refl, ap, sym, ◌∙◌, subst, arith, inl, inr}
+use Rattle.std.proofs.Common.{◌≡◌, ℕ, ◌+◌, ◌-◌, Bool, true, false, List, refl, ap, sym, ◌∙◌, subst, arith, inl, inr}
 use Rattle.std.proofs.lemmas.Bool.{cases_lt}
 use Rattle.mg_turn.specs.declared.outcome.Outcome.{Outcome}
 use Rattle.mg_turn.specs.declared.outcome.TurnEnd.{TurnEnd}

@@ -1,5 +1,5 @@
 -- Turns of plain searches are sound: what a log and a run ask of them.
-use Rattle.std.proofs.Common.{◌≡◌, ℕ, ◌+◌, ◌≤◌, List, refl, ap, sym, subst, le_refl, lit≤}
+use Rattle.std.proofs.Common.{ℕ, ◌+◌, ◌≤◌, List, refl, ap, sym, subst, le_refl, lit≤}
 use Rattle.std.proofs.Math.Nat.{not-suc-le_self}
 use Rattle.std.specs.List.{AllByRecursion}
 use Rattle.mg_core.specs.declared.entries.Facts.{Facts}

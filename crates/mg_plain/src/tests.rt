@@ -10,7 +10,7 @@ use mg_certs::{Claim, ClaimView, Verdict, Yes};
 use mg_core::{Facts, Records};
 use mg_derive::Symbol;
 use mg_present::{Ask, MOST_RELATOR_LETTERS, Presentation};
-use mg_turn::{Searcher, Stop, TurnEnd};
+use mg_turn::{Outcome, Searcher, Stop, TurnEnd};
 use mg_words::{Letter, Procedure, Word, Words, is_over, is_reduced};
 use std::alloc::{AllocError, Global};
 use std::test::Fail;
@@ -74,9 +74,9 @@ fn goes_on(alloc: Global, search: &mut Plain, units: u64) -> Result<bool, NoMemo
     requires most { search.old.cursor + units ≤ 2 ^ 62 }
     ensures { IfOk result (λ more. IsTrue more → search.new.is_open ≡ true) }
 {
-    let outcome = search.turn(alloc, units, no_models(alloc), &mut Ignorant)?;
-    match outcome.end {
-        TurnEnd::More => Ok(outcome.spent == units),
+    let Outcome { spent, end } = search.turn(alloc, units, no_models(alloc), &mut Ignorant)?;
+    match end {
+        TurnEnd::More => Ok(spent == units),
         _ => Ok(false),
     }
 }
@@ -86,11 +86,9 @@ fn finds_by_one(alloc: Global, search: &mut Plain) -> Result<bool, NoMemory>
     requires is_open { search.old.is_open ≡ true }
     requires most { search.old.cursor + 1 ≤ 2 ^ 62 }
 {
-    let outcome = search.turn(alloc, 1, no_models(alloc), &mut Ignorant)?;
-    match outcome.end {
-        TurnEnd::Found(records) => Ok(
-            outcome.spent == 1 && are_the_claim(alloc, records.as_slice())?,
-        ),
+    let Outcome { spent, end } = search.turn(alloc, 1, no_models(alloc), &mut Ignorant)?;
+    match end {
+        TurnEnd::Found(records) => Ok(spent == 1 && are_the_claim(alloc, records.as_slice())?),
         _ => Ok(false),
     }
 }

@@ -1,4 +1,4 @@
-use Rattle.std.proofs.Common.{◌≡◌, ◌+◌, rules, subst}
+use Rattle.std.proofs.Common.{◌+◌, rules, subst}
 use Rattle.mg_turn.specs.declared.outcome.TurnEnd.TheVariants.{Found}
 use Rattle.mg_plain.specs.Plain.{Plain, SomeAccepted, PlainTurn}
 use Rattle.mg_plain.proofs.Testing.{seen, turn_found, some_accepted}
