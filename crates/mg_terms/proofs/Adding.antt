@@ -1,12 +1,12 @@
 -- A lexeme more adds events behind those that were there.
-use Rattle.std.proofs.Common.{◌≡◌, ◌≢◌, ℕ, zero, suc, ◌+◌, ◌<◌, ◌≤◌, Bool, true, false, List, [], ◌∷◌, ◌++◌, length, Option, Some, None, IfSome, refl, sym, ap, subst, ◌∙◌, arith, append_assoc, append-nil, length-append, add-zero}
+use Rattle.std.proofs.Common.{◌≡◌, ◌≢◌, ℕ, zero, suc, ◌+◌, ◌<◌, ◌≤◌, Bool, true, false, List, [], ◌∷◌, ◌++◌, length, IfSome, refl, sym, ap, subst, ◌∙◌, arith, append_assoc, append-nil, length-append, add-zero}
 use Rattle.std.specs.List.{AllByRecursion}
 use Rattle.mg_lex.specs.declared.mark.Mark.TheVariants as mark
 use Rattle.mg_terms.specs.declared.lexeme.Lexeme.{Lexeme}
 use Rattle.mg_terms.specs.declared.lexeme.Lexeme.TheVariants as lexeme
-use Rattle.mg_terms.specs.Word.{Base, name, one, round, commutator, Factor, bare, power, Word, single, times, minus_lexemes, base_lexemes, factor_lexemes, word_lexemes, base_letters, factor_letters, word_letters}
-use Rattle.mg_terms.specs.Event.{Event, opens, ends, part, base_events, factor_events, word_events}
-use Rattle.mg_terms.specs.Reading.{Before, none, after, Opened, in_round, in_left, in_right, Frame, frame, Stand, front, behind, caret, minus, whole, State, state, joined, begin_step, round_step, comma_step, square_step, whole_step, number_step, step, before_lexemes, frames_lexemes, stand_lexemes, state_lexemes, closed, closed_state, number_count, depth, before_events, opened_events, frames_events, stand_events, state_events}
+use Rattle.mg_terms.specs.Word.{Base, name, one, round, commutator, Factor, bare, power, Word, minus_lexemes, base_lexemes, factor_lexemes, word_lexemes, base_letters, factor_letters, word_letters}
+use Rattle.mg_terms.specs.Event.{Event, opens, ends, part, factor_events, word_events}
+use Rattle.mg_terms.specs.Reading.{Before, none, after, in_round, in_left, in_right, Frame, frame, front, behind, caret, minus, whole, State, state, joined, begin_step, round_step, comma_step, square_step, whole_step, number_step, step, before_lexemes, frames_lexemes, state_lexemes, closed_state, number_count, depth, before_events, frames_events, state_events}
 use Rattle.mg_terms.proofs.Machine.{joined_lexemes}
 
 -- the event comes with the lexeme at place k or later

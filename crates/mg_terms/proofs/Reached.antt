@@ -1,7 +1,6 @@
 -- What the loop over the lexemes keeps, and what follows where it ends.
-use Rattle.std.proofs.Common.{◌≡◌, ◌≢◌, ◌⊎◌, inl, inr, ⊎_elim, ℕ, ◌+◌, ◌<◌, ◌≤◌, Bool, true, false, List, [], ◌∷◌, ◌++◌, length, take, drop, Result, Ok, Err, Some, None, get_or, refl, sym, ap, subst, ◌∙◌, arith}
-use Rattle.std.proofs.lemmas.List.{take-append-drop, length-take-le, take_more, drop_more, drop_all, take_all}
-use Rattle.mg_lex.specs.declared.refusal.Cause.{Cause}
+use Rattle.std.proofs.Common.{◌≡◌, inl, inr, ⊎_elim, ℕ, ◌+◌, ◌<◌, ◌≤◌, Bool, true, false, List, [], ◌∷◌, ◌++◌, length, take, drop, Result, Ok, Err, Some, None, get_or, refl, sym, ap, subst, ◌∙◌, arith}
+use Rattle.std.proofs.lemmas.List.{take-append-drop, length-take-le, take_more, drop_more, drop_all}
 use Rattle.mg_lex.specs.declared.refusal.Cause.TheVariants as cause
 use Rattle.mg_terms.specs.declared.lexeme.Lexeme.{Lexeme}
 use Rattle.mg_terms.specs.declared.lexeme.Lexeme.TheVariants as lexeme
@@ -9,11 +8,11 @@ use Rattle.mg_terms.specs.declared.limits.TheConstants.{WORD_LIMIT}
 use Rattle.mg_terms.specs.declared.reader.Position.TheVariants as position
 use Rattle.mg_terms.specs.declared.reader.Reader.{Reader}
 use Rattle.mg_terms.specs.declared.fault.WordFault.{WordFault}
-use Rattle.mg_terms.specs.Word.{Word, word_lexemes, word_letters}
+use Rattle.mg_terms.specs.Word.{Word}
 use Rattle.mg_terms.specs.Cause.{IsReach, IsFaultless, IsFirstCause}
 use Rattle.mg_terms.specs.Read.{IsRead}
 use Rattle.mg_terms.specs.Event.{AreWithin}
-use Rattle.mg_terms.specs.Reading.{Stand, behind, front, caret, minus, whole, State, state, step, run, start, state_lexemes, closed_state, state_events, StopsAt, NoCaret, ClosesLong, TakesLong, TakesDeep}
+use Rattle.mg_terms.specs.Reading.{behind, front, caret, minus, whole, State, state, step, run, start, closed_state, state_events, StopsAt, NoCaret, ClosesLong, TakesLong, TakesDeep}
 use Rattle.mg_terms.specs.Reader.{kept, IsReady, Takes, Steps, IsWhole, Ends, HasStopped}
 use Rattle.mg_terms.proofs.Beginnings.{read_more}
 use Rattle.mg_terms.proofs.Adding.{closed_lexemes}

@@ -1,5 +1,5 @@
 -- What the reader keeps follows the states.
-use Rattle.std.proofs.Common.{◌≡◌, ◌≢◌, ◌⊎◌, inl, inr, ⊎_elim, ℕ, ◌+◌, ◌*◌, ◌<◌, ◌≤◌, Bool, true, false, IsTrue, List, [], ◌∷◌, ◌++◌, length, Option, Some, None, Result, Ok, Err, IfOk, IfErr, OnOk, refl, sym, ap, subst, ◌∙◌, arith, append_assoc, append-nil, length-append, ◌↔◌}
+use Rattle.std.proofs.Common.{◌≡◌, ◌≢◌, inl, inr, ⊎_elim, ℕ, ◌+◌, ◌*◌, ◌<◌, ◌≤◌, Bool, true, false, IsTrue, List, [], ◌∷◌, ◌++◌, length, Some, Result, Ok, Err, IfOk, IfErr, OnOk, refl, sym, ap, subst, ◌∙◌, arith, append-nil, length-append, ◌↔◌}
 use Rattle.std.specs.List.{AllByRecursion, Contains}
 use Rattle.std.proofs.lemmas.List.Elements.{Contains-push, Contains-append_right}
 use Rattle.mg_lex.specs.declared.refusal.Cause.TheVariants as cause
@@ -15,10 +15,10 @@ use Rattle.mg_terms.specs.declared.reader.Reader.{Reader}
 use Rattle.mg_terms.specs.declared.fault.WordFault.{WordFault}
 use Rattle.mg_terms.specs.Word.{Base, name, one, round, commutator, Factor, bare, power, Word, single, times, star_lexemes, base_lexemes, factor_lexemes, word_lexemes, base_letters, factor_letters, word_letters}
 use Rattle.mg_terms.specs.Event.{Event, opens, ends, part, factor_events, word_events, IsWithin, AreWithin}
-use Rattle.mg_terms.specs.Reading.{Before, none, after, Opened, in_round, in_left, in_right, Frame, frame, Stand, front, behind, caret, minus, whole, State, state, joined, begin_step, round_step, square_step, whole_step, number_step, step, number_count, depth, frames_lexemes, before_lexemes, state_lexemes, frames_events, state_events, closed_state, TakesLong, TakesDeep}
-use Rattle.mg_terms.specs.Reader.{bracket_of, begun, before_letters, around, kept, Has, IsReady, Takes, Breaks, Brings, Steps, IsWhole, Ends}
+use Rattle.mg_terms.specs.Reading.{Before, none, after, in_round, in_left, in_right, Frame, frame, front, behind, caret, minus, whole, State, state, joined, begin_step, round_step, square_step, whole_step, number_step, step, number_count, depth, frames_lexemes, before_lexemes, state_lexemes, frames_events, state_events, closed_state, TakesLong}
+use Rattle.mg_terms.specs.Reader.{begun, before_letters, around, kept, Has, IsReady, Takes, Breaks, Brings, Steps, IsWhole, Ends}
 use Rattle.mg_terms.proofs.Machine.{closed_step}
-use Rattle.mg_terms.proofs.Adding.{front_known, front_place, whole_known, closed_adds, closed_lexemes, one_added, round_added, square_added, number_added, number_length, factor_length}
+use Rattle.mg_terms.proofs.Adding.{front_known, front_place, whole_known, closed_adds, closed_lexemes, one_added, round_added, square_added, number_added, number_length}
 use Rattle.mg_terms.proofs.Runs.{all_append}
 
 all_right : (P : Event → Type 0) (xs ys : List Event) → AllByRecursion P (xs ++ ys) → AllByRecursion P ys
