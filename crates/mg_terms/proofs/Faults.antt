@@ -96,9 +96,9 @@ whole_lexemes : (front : List Lexeme) (s : State) (w : Word) → run start front
 whole_lexemes front s w reads at_end =
     ap state_lexemes (sym at_end) ∙ closed_lexemes s ∙ run_reads front start s reads
 
-pub word_end : (front ys : List Lexeme) (s : State) (w : Word) → run start front ≡ Some s → StopsAt s ys → AreWithin (state_events (closed_state s)) → closed_state s ≡ state [] (whole w) →
+pub word_stops : (front ys : List Lexeme) (s : State) (w : Word) → run start front ≡ Some s → StopsAt s ys → AreWithin (state_events (closed_state s)) → closed_state s ≡ state [] (whole w) →
     (word_lexemes w ≡ front) × IsReach (front ++ ys) (length front) × IsFaultless (front ++ ys)
-word_end front ys s w reads stops within at_end =
+word_stops front ys s w reads stops within at_end =
     let lexemes = whole_lexemes front s w reads at_end in
     let reach = stop_reach front ys s reads stops in (
       lexemes,

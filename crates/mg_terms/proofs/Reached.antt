@@ -16,7 +16,7 @@ use Rattle.mg_terms.specs.Reading.{behind, front, caret, minus, whole, State, st
 use Rattle.mg_terms.specs.Reader.{kept, IsReady, Takes, Steps, IsWhole, Ends, HasStopped}
 use Rattle.mg_terms.proofs.Beginnings.{read_more}
 use Rattle.mg_terms.proofs.Adding.{closed_lexemes}
-use Rattle.mg_terms.proofs.Faults.{count_read, word_end, unexpected_first, closes_long, takes_long, takes_deep}
+use Rattle.mg_terms.proofs.Faults.{count_read, word_stops, unexpected_first, closes_long, takes_long, takes_deep}
 use Rattle.mg_terms.proofs.Taking.{behind_some, whole_within}
 
 -- the reader has read these lexemes, within the limits
@@ -134,7 +134,7 @@ stopped_word xs count letters r has word =
     let w = word.0 in
     let same = seen_closed xs count r has in
     let whole_list = take-append-drop count xs in
-    let h = word_end (take count xs) (drop count xs) has.reached w has.runs has.stops (subst (λ s. AreWithin (state_events s)) same word.3) (sym same ∙ word.1) in
+    let h = word_stops (take count xs) (drop count xs) has.reached w has.runs has.stops (subst (λ s. AreWithin (state_events s)) same word.3) (sym same ∙ word.1) in
     let reach = subst (λ ys. IsReach ys (length (take count xs))) whole_list h.1 in
     let within = subst (λ s. AreWithin (state_events s)) word.1 word.3 in (
       record {
