@@ -1,5 +1,5 @@
 -- Permutations as image lists: each point stands somewhere, products and inverses.
-use Rattle.std.proofs.Common.{◌≡◌, ◌≢◌, ℕ, zero, suc, ◌+◌, ◌/◌, ◌%◌, ◌<◌, List, length, get_or, set, sym, ap, subst, ◌∙◌, inl, inr, arith}
+use Rattle.std.proofs.Common.{◌≡◌, ◌≢◌, ℕ, zero, suc, ◌+◌, ◌/◌, ◌%◌, ◌<◌, List, length, get_or, set, All, sym, ap, subst, ◌∙◌, inl, inr, arith}
 use Rattle.std.specs.Prelude.{◌==◌}
 use Rattle.std.specs.List.{position_or_len}
 use Rattle.std.proofs.lemmas.Bool.Decides.{nat_tests, eqb_tells}
@@ -12,6 +12,7 @@ use Rattle.std.proofs.lemmas.List.Sums.{position_or_len_is}
 use Rattle.mg_numbers.specs.Perms.{IsPerm, factorial}
 use Rattle.mg_numbers.proofs.PermsRank.{bump, unbump, factorial-pos, perm_rank, perm_at, perm_rank-below, perm_at-perm_rank, IsPerm-perm_at}
 use Rattle.mg_action.specs.Permutation.{identity, product_of, inverse_of}
+use Rattle.mg_action.specs.Layout.{PlacesUpTo}
 
 -- the place at which a point stands
 abbrev pub place_of : List ℕ → ℕ → ℕ
@@ -147,13 +148,25 @@ inverse_from d xs ys p e back =
     same_points d ys (inverse_of xs) e (length-inverse xs ∙ p.count)
     (λ k h. ap (λ n. get_or ys n 0) (sym (at-place d xs p k h)) ∙ back (place_of xs k) (place-below d xs p k h) ∙ sym (at-inverse xs k (omega (arith, p.count))))
 
--- one image more is taken back
-pub taken_back : (d : ℕ) (xs ys : List ℕ) (n : ℕ) → IsPerm d xs → length ys ≡ d → n < d → ((k : ℕ) → k < n → get_or ys (get_or xs k 0) 0 ≡ k) → (k : ℕ) → k < n + 1 → get_or (set ys (get_or xs n 0) n) (get_or xs k 0) 0 ≡ k
-taken_back d xs ys n p e h back k l =
-    elim (cases_lt k n) [
-      | inl before ↦
-          get_or-set_other ys (get_or xs n 0) (get_or xs k 0) n 0 (perm-apart d xs p k n before h) ∙ back k before
-      | inr after ↦
-          let same : k ≡ n = omega arith in
-          ap (λ i. get_or (set ys (get_or xs n 0) n) (get_or xs i 0) 0) same ∙ get_or-set_same ys (get_or xs n 0) n 0 (omega (arith, e, perm-below d xs p n h)) ∙ sym same
+-- a place at which an image of a permutation stands is its place
+pub same_place : (d : ℕ) (xs places : List ℕ) (k : ℕ) → IsPerm d xs → PlacesUpTo d xs places → k < d → get_or places (get_or xs k 0) 0 ≡ k
+same_place d xs places k p at h =
+    let j : ℕ = get_or places (get_or xs k 0) 0 in
+    sym (place-at d xs p j (at k h).0) ∙ ap (place_of xs) (at k h).1 ∙ place-at d xs p k h
+
+pub places_inverse : (d : ℕ) (xs places : List ℕ) → IsPerm d xs → length places ≡ d → PlacesUpTo d xs places → places ≡ inverse_of xs
+places_inverse d xs places p e at = inverse_from d xs places p e (λ k h. same_place d xs places k p at h)
+
+-- the place of one more number is put
+pub places_more : (xs places : List ℕ) (n : ℕ) → All (λ x. x < length xs) xs → length places ≡ length xs → n < length xs → PlacesUpTo n xs places → PlacesUpTo (n + 1) xs (set places (get_or xs n 0) n)
+places_more xs places n below e h at k l =
+    let x : ℕ = get_or xs n 0 in
+    elim (eqb_tells (get_or xs k 0) x) [
+      | inl (t, same) ↦
+          let put : get_or (set places x n) (get_or xs k 0) 0 ≡ n = ap (λ y. get_or (set places x n) y 0) same ∙ get_or-set_same places x n 0 (omega (arith, below n 0 h)) in
+          (omega (arith, put), ap (λ j. get_or xs j 0) put ∙ sym same)
+      | inr (t, other) ↦
+          let before : k < n = elim (cases_lt k n) [ inl less ↦ less | inr more ↦ absurd (other (let last : k ≡ n = omega arith in ap (λ j. get_or xs j 0) last)) ] in
+          let kept : get_or (set places x n) (get_or xs k 0) 0 ≡ get_or places (get_or xs k 0) 0 = get_or-set_other places x (get_or xs k 0) n 0 other in
+          (omega (arith, kept, (at k before).0), ap (λ j. get_or xs j 0) kept ∙ (at k before).1)
     ]

@@ -1,10 +1,10 @@
 -- Permutations that stand one after another: each image has its place, and each list is cut in one way.
-use Rattle.std.proofs.Common.{◌≡◌, ℕ, zero, suc, ◌+◌, ◌-◌, ◌*◌, ◌/◌, ◌<◌, ◌≤◌, ℤ, pos, negsuc, List, [], ◌∷◌, ◌++◌, length, map, get_or, take, drop, replicate, All, refl, sym, ap, subst, ◌∙◌, append_assoc, arith}
+use Rattle.std.proofs.Common.{◌≡◌, ℕ, zero, suc, ◌+◌, ◌-◌, ◌*◌, ◌/◌, ◌%◌, ◌<◌, ◌≤◌, ℤ, pos, negsuc, List, [], ◌∷◌, ◌++◌, length, map, get_or, take, drop, replicate, All, refl, sym, ap, subst, ◌∙◌, append_assoc, arith}
 use Rattle.std.specs.List.{concat, AllZip}
 use Rattle.std.specs.Simd.{first_chunks}
-use Rattle.std.proofs.Math.Nat.{suc-mul, mul-div_cancel}
+use Rattle.std.proofs.Math.Nat.{suc-mul, mul-div_cancel, add-mod_left, mul-mod_left, mod-eq_of_lt}
 use Rattle.std.proofs.Math.Numerals.{add-one}
-use Rattle.std.proofs.lemmas.List.{take-replicate, length-append, length-map, get_or_append_left, get_or-append-add, get_or-map, take_at, drop_at, take_more, append-nil}
+use Rattle.std.proofs.lemmas.List.{nil_from_length, take-replicate, length-append, length-map, get_or_append_left, get_or-append-add, get_or-map, take_at, drop_at, take_more, append-nil}
 use Rattle.std.proofs.lemmas.List.Elements.{All-nil, All-cons, All-replicate, All-head, All-tail, All-get_or, All-weaker, All-map}
 use Rattle.std.proofs.lemmas.List.Folds.{concat-append}
 use Rattle.mg_words.specs.Letter.{IsLetterOf}
@@ -243,3 +243,33 @@ one_point g n h = record {
   each = All-replicate (IsPerm 1) g (0 ∷ []) (IsPerm-identity 1);
   joined = joined_points g ∙ sym (take-replicate g n 0 h);
 }
+
+-- images are those of permutations where the first ones are, and the others are
+abbrev pub Whole : ℕ → List ℕ → Type 0
+Whole d xs = (perms : List (List ℕ)) × AreImages d perms xs
+
+pub whole_more : (d : ℕ) (x after rest : List ℕ) → IsPerm d x → rest ≡ x ++ after → Whole d after → Whole d rest
+whole_more d x after rest p e whole =
+    (x ∷ whole.0, record { each = All-cons (IsPerm d) x whole.0 p whole.1.each; joined = ap (λ t. x ++ t) whole.1.joined ∙ sym e })
+
+pub whole_less : (d : ℕ) (x after rest : List ℕ) → 1 ≤ d → length x ≡ d → rest ≡ x ++ after → Whole d rest → IsPerm d x × Whole d after
+whole_less d x after rest points long e whole =
+    let first = first_perm d whole.0 x after points whole.1.each (whole.1.joined ∙ e) long in
+    (first.perm, (first.tail, record { each = first.others; joined = first.rest }))
+
+pub whole_none : (d : ℕ) (rest : List ℕ) → rest ≡ [] → Whole d rest
+whole_none d rest e = ([], record { each = All-nil (IsPerm d); joined = sym e })
+
+-- a number of images that the degree divides, and that is below it, is 0
+pub none_left : (d : ℕ) (rest : List ℕ) → length rest % d ≡ 0 → length rest < d → rest ≡ []
+none_left d rest whole short = nil_from_length rest (sym (mod-eq_of_lt short) ∙ whole)
+
+pub some_left : (d : ℕ) (x after rest : List ℕ) → length x ≡ d → rest ≡ x ++ after → length rest % d ≡ 0 → length after % d ≡ 0
+some_left d x after rest long e whole =
+    let sum : length rest ≡ d + length after = ap length e ∙ length-append x after ∙ ap (λ n. n + length after) long in
+    sym (add-mod_left d (length after)) ∙ ap (λ n. n % d) (sym sum) ∙ whole
+
+-- a number of images that the degree doesn't divide
+pub whole_divides : (d : ℕ) (xs : List ℕ) → Whole d xs → length xs % d ≡ 0
+whole_divides d xs whole =
+    ap (λ n. n % d) (sym (ap length whole.1.joined) ∙ length-rows d whole.0 (long_perms d whole.0 whole.1.each)) ∙ mul-mod_left (length whole.0) d

@@ -1,5 +1,5 @@
 -- How an action is kept: as lists of numbers in a row.
-use Rattle.std.specs.Prelude.{◌≡◌, ℕ, ◌*◌, ◌≤◌, List, map, All}
+use Rattle.std.specs.Prelude.{◌≡◌, ℕ, ◌*◌, ◌<◌, ◌≤◌, List, map, All, slice_index}
 use Rattle.std.specs.List.{concat}
 use Rattle.mg_numbers.specs.Perms.{IsPerm, PermTuple, IsPermTuple}
 use Rattle.mg_numbers.specs.declared.blocks.TheConstants.{MOST_DEGREE}
@@ -18,3 +18,7 @@ pub record IsKept (action : PermTuple) (generators : ℕ) (images inverses : Lis
   pub back : concat (map inverse_of action.images) ≡ inverses
   pub room : generators * MOST_DEGREE ≤ images_room
   pub back_room : generators * MOST_DEGREE ≤ inverses_room
+
+-- for each of the first n numbers of a list a place before the n-th at which it stands
+abbrev pub PlacesUpTo : ℕ → List ℕ → List ℕ → Type 0
+PlacesUpTo n xs places = (k : ℕ) → k < n → (slice_index places (slice_index xs k) < n) × (slice_index xs (slice_index places (slice_index xs k)) ≡ slice_index xs k)

@@ -10,6 +10,7 @@ mod lists;
 pub use action::Action;
 pub use evidence::{is_action, refutes};
 pub use laws::{actions_and_numbers_correspond, refuted_goals_do_not_lie, same_words_act_alike};
+pub use lists::are_images;
 pub use mg_words::NoMemory;
 
 #[cfg(test)]

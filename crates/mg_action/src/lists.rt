@@ -1,14 +1,41 @@
 //! Lists of permutations, one after another.
-ghost use Rattle.std.specs.Prelude.{◌≡◌, ◌++◌, ◌+◌, ◌*◌, ◌<◌, ◌≤◌, ◌^◌, ℕ, List, [], IfOk, All, length, map, replicate, vec_capacity};
+ghost use Rattle.std.specs.Prelude.{◌≡◌, ◌↔◌, ◌++◌, ◌+◌, ◌*◌, ◌%◌, ◌<◌, ◌≤◌, ◌^◌, ℕ, IsTrue, List, [], IfOk, All, length, map, replicate, vec_capacity};
 ghost use Rattle.std.specs.List.{AllZip, concat};
 ghost use Rattle.mg_numbers.specs.Blocks.{Earlier, IsNth};
 ghost use Rattle.mg_numbers.specs.Perms.{IsPerm, factorial};
 ghost use Rattle.mg_action.specs.Permutation.{inverse_of};
-ghost use Rattle.mg_action.specs.Layout.{AreImages};
+ghost use Rattle.mg_action.specs.Layout.{AreImages, PlacesUpTo};
 
 use mg_numbers::{MOST_DEGREE, perm_of};
 use mg_words::NoMemory;
 use std::alloc::{AllocError, Global};
+
+/// Whether these are the image lists of some permutations of so many points, one after another.
+pub fn are_images(alloc: Global, degree: u32, images: &[u32]) -> Result<bool, NoMemory>
+    requires { 1 ≤ degree }
+    ensures { IfOk result (λ whole. IsTrue whole ↔ ((perms : List (List ℕ)) × AreImages degree perms images.now)) }
+{
+    if images.len() % degree as usize != 0 {
+        return Ok(false);
+    }
+    let mut places = vec![in alloc; 0; degree as usize]?;
+    Ok(are_perms(degree, images, &mut places))
+}
+
+// Whether the lists of this length, of which there is a whole number, are image lists of permutations.
+fn are_perms(degree: u32, images: &[u32], places: &mut [u32]) -> bool
+    requires points { 1 ≤ degree }
+    requires whole { length images.now % degree ≡ 0 }
+    requires fits { length places.old ≡ degree }
+    ensures { IsTrue result ↔ ((perms : List (List ℕ)) × AreImages degree perms images.now) }
+{
+    for perm in images.chunks_exact(degree as usize) {
+        if !is_perm(perm, places) {
+            return false;
+        }
+    }
+    true
+}
 
 // An empty list with room for this many images, and for as many permutations of the largest degree.
 pub(crate) fn with_room(alloc: Global, perms: usize, images: usize) -> Result<Vec<u32>, NoMemory>
@@ -84,9 +111,38 @@ fn put_inverse(perm: &[u32], out: &mut [u32])
     requires points { length perm.now < 2 ^ 32 }
     ensures { out.new ≡ inverse_of perm.now }
 {
-    for point in 0..perm.len() {
-        out[perm[point] as usize] = point as u32;
+    put_places(perm, out);
+}
+
+// Puts for each number of the list a place at which it stands.
+fn put_places(list: &[u32], out: &mut [u32])
+    requires below { All (λ x. x < length list.now) list.now }
+    requires fits { length out.old ≡ length list.now }
+    requires points { length list.now < 2 ^ 32 }
+    ensures { PlacesUpTo (length list.now) list.now out.new }
+{
+    for place in 0..list.len() {
+        out[list[place] as usize] = place as u32;
     }
+}
+
+// Whether the list is the image list of a permutation; `places` is room to find out.
+fn is_perm(list: &[u32], places: &mut [u32]) -> bool
+    requires fits { length places.old ≡ length list.now }
+    requires points { length list.now < 2 ^ 32 }
+    ensures { IsTrue result ↔ IsPerm (length list.now) list.now }
+{
+    let count = list.len();
+    if !list.iter().all(|x| (*x as usize) < count) {
+        return false;
+    }
+    put_places(list, places);
+    for place in 0..count {
+        if places[list[place] as usize] as usize != place {
+            return false;
+        }
+    }
+    true
 }
 
 // Appends so many zeros, for which there is room.

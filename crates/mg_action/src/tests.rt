@@ -70,6 +70,14 @@ fn symmetric(alloc: Global, subgroup: &[&[Letter]], goal: &[Letter]) -> Result<A
     )
 }
 
+// The action with these images, where they are whole permutations; else no memory.
+fn made(alloc: Global, degree: u32, images: &[u32]) -> Result<Action, NoMemory> {
+    if degree == 0 || !are_images(alloc, degree, images)? {
+        return Err(AllocError);
+    }
+    Action::from_images(alloc, degree, images)
+}
+
 // The action of two generators with number 15.
 fn fifteenth(alloc: Global) -> Result<Action, NoMemory> {
     let mut action = Action::of_one_point(alloc, 2)?;
@@ -89,7 +97,7 @@ fn an_action_by_its_number(rt: HostRuntime) -> Result<(), Fail> {
 #[test]
 fn an_action_of_the_symmetric_group(rt: HostRuntime) -> Result<(), Fail> {
     let alloc = rt.alloc();
-    let action = Action::from_images(alloc, 3, &[0, 2, 1, 1, 2, 0])?.copy(alloc)?;
+    let action = made(alloc, 3, &[0, 2, 1, 1, 2, 0])?.copy(alloc)?;
     let ask = symmetric(alloc, &[], &[B])?;
     assert!(rt; is_action(ask.group(), &action));
     assert!(rt; refutes(&ask, 0, &action));
@@ -135,6 +143,16 @@ fn a_group_without_generators(rt: HostRuntime) -> Result<(), Fail> {
     let ask = ask_of(alloc, 0, &[&[]], &[], &[])?;
     assert!(rt; is_action(ask.group(), &action));
     assert!(rt; !refutes(&ask, 0, &action));
+    Ok(())
+}
+
+#[test]
+fn images_are_whole_permutations(rt: HostRuntime) -> Result<(), Fail> {
+    let alloc = rt.alloc();
+    assert!(rt; are_images(alloc, 3, &[2, 0, 1])?);
+    assert!(rt; !are_images(alloc, 3, &[0, 0, 1])?);
+    assert!(rt; !are_images(alloc, 3, &[0, 3, 1])?);
+    assert!(rt; !are_images(alloc, 2, &[0, 1, 0])?);
     Ok(())
 }
 

@@ -1,14 +1,11 @@
 -- The text of a number, and the texts of an Ask with one symbol.
-use Rattle.std.proofs.Common.{◌≡◌, ◌≢◌, ℕ, suc, ◌+◌, ◌-◌, ◌^◌, ◌<◌, ◌≤◌, Bool, true, false, ℤ, List, [], ◌∷◌, ◌++◌, length, map, get_or, refl, sym, ap, subst, ◌∙◌, ◌⊎◌, inl, inr, append_assoc, arith, Some, zero-add, eq-eqb}
+use Rattle.std.proofs.Common.{◌≡◌, ℕ, suc, ◌+◌, ◌≤◌, ℤ, List, [], ◌∷◌, ◌++◌, length, map, refl, sym, ap, subst, ◌∙◌, inl, inr, arith}
 use Rattle.std.specs.List.{AllByRecursion, flat_map}
-use Rattle.std.proofs.lemmas.List.{length-append, length-map, map-append, get_or_at, append-nil}
-use Rattle.std.specs.Prelude.{◌↔◌, ◌==◌, if◌then◌else◌, IsTrue, slice_get}
-use Rattle.std.proofs.lemmas.Bool.{cases_lt, false≢true}
-use Rattle.std.proofs.lemmas.Bool.Decides.{nat_tests}
-use Rattle.std.proofs.lemmas.Option.{slice_get_within, get_or_from_slice_get}
+use Rattle.std.proofs.lemmas.List.{length-map}
+use Rattle.std.proofs.lemmas.Bool.{cases_lt}
 use Rattle.mg_numbers.specs.Texts.{IsText, value}
-use Rattle.mg_numbers.specs.Plain.{NoneAmong, FindsFirst}
-use Rattle.mg_numbers.proofs.TextsValues.{text_unique, value_in_base_one, length_within, room_for_a_digit}
+use Rattle.mg_numbers.specs.Plain.{NoneAmong}
+use Rattle.mg_numbers.proofs.TextsValues.{value_in_base_one}
 use Rattle.mg_words.specs.Word.{IsOver}
 use Rattle.mg_words.proofs.Chains.{Same-equal}
 use Rattle.mg_present.specs.Ask.{Inquiry, IsAsked, IsReducedOver}
@@ -17,9 +14,7 @@ use Rattle.mg_derive.specs.declared.symbol.Symbol.TheVariants.{Letter, Relator, 
 use Rattle.mg_derive.specs.Symbols.{IsSymbolOf, digit_of, symbol_count, written_out, letters_alone}
 use Rattle.mg_derive.specs.Acceptance.{IsInOrder, Vanishes, Write, IsAccepted, IsNumbered, AcceptedAt}
 use Rattle.mg_derive.specs.Room.{Room, HasRoom}
-use Rattle.mg_derive.specs.Walk.{HasRoomForAll}
-use Rattle.mg_derive.proofs.Numbers.{below_cut, digits_text, numbered_one}
-use Rattle.mg_derive.proofs.Parts.{InOrder, in_order_from, all_left, all_right}
+use Rattle.mg_derive.proofs.Numbers.{digits_text, numbered_one}
 
 abbrev closed : List Symbol → List Symbol
 closed part = part ++ Cut ∷ []

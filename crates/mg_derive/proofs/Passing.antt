@@ -1,10 +1,10 @@
 -- The numbers of the texts that a walk passes.
-use Rattle.std.proofs.Common.{◌≡◌, ◌≢◌, ℕ, zero, suc, ◌+◌, ◌-◌, ◌*◌, ◌^◌, ◌<◌, ◌≤◌, ◌⊎◌, List, [], ◌∷◌, ◌++◌, length, map, replicate, refl, sym, ap, subst, ◌∙◌, inl, inr, append_assoc, arith}
+use Rattle.std.proofs.Common.{◌≡◌, ◌≢◌, ℕ, zero, suc, ◌+◌, ◌-◌, ◌*◌, ◌^◌, ◌<◌, ◌≤◌, List, [], ◌∷◌, ◌++◌, length, map, replicate, refl, sym, ap, subst, ◌∙◌, inl, inr, append_assoc, arith}
 use Rattle.std.specs.List.{AllByRecursion}
-use Rattle.std.proofs.Math.Nat.{pow-suc, pow-succ', pow-zero}
-use Rattle.std.proofs.lemmas.List.{length-append, length-map, map-append, length-replicate, nil_from_length}
+use Rattle.std.proofs.Math.Nat.{pow-succ', pow-zero}
+use Rattle.std.proofs.lemmas.List.{length-append, length-map, map-append, length-replicate}
 use Rattle.std.proofs.lemmas.Bool.{cases_lt, cases_order}
-use Rattle.mg_numbers.specs.Texts.{IsDigit, IsText, value}
+use Rattle.mg_numbers.specs.Texts.{IsText, value}
 use Rattle.mg_numbers.specs.Plain.{NoneAmong, FindsFirst}
 use Rattle.mg_numbers.proofs.TextsValues.{IsText-append, IsText-ones, text_of_each, value-append, value-push, value_of_one, value_of_ones, value_in_base_one, value_at_least, value_below, least_of, least_of-monotone, length_within}
 use Rattle.mg_numbers.proofs.TextsPlain.{none_joined}
@@ -14,7 +14,7 @@ use Rattle.mg_derive.specs.Symbols.{IsSymbolOf, digit_of, symbol_count}
 use Rattle.mg_derive.specs.Acceptance.{IsNumbered, IsAccepted, AcceptedAt}
 use Rattle.mg_derive.specs.Walk.{NoneFollow, IsShort}
 use Rattle.mg_derive.proofs.Numbers.{digits_text, spelled, numbered_one}
-use Rattle.mg_derive.proofs.Parts.{all_append, accepted_from_runs, runs_from_accepted}
+use Rattle.mg_derive.proofs.Parts.{all_append, runs_from_accepted}
 use Rattle.mg_derive.proofs.Ends.{accepted_text, none_in_base_one}
 
 -- the value of the first text that begins with these digits and this one
@@ -72,13 +72,6 @@ none_here ask base text symbol digit left b ht hs d none =
     (none_in_block ask text symbol left n ht hs none (ap (λ k. value (symbol_count ask) (map (digit_of ask) text ++ k ∷ replicate left 1)) (sym d)))
 
 -- ---- from one place of a walk to the next
-
--- one symbol read
-pub first_deeper : (base : ℕ) (xs ys : List ℕ) (d left : ℕ) → ys ≡ xs ++ d ∷ [] → 1 ≤ left → value base (ys ++ 1 ∷ replicate (left - 1) 1) ≡ value base (xs ++ d ∷ replicate left 1)
-first_deeper base xs ys d left e h =
-    let n : suc (left - 1) ≡ left = omega arith in
-    ap (λ t. value base (t ++ 1 ∷ replicate (left - 1) 1)) e
-    ∙ (ap (λ t. value base t) (append_assoc xs (d ∷ []) (1 ∷ replicate (left - 1) 1)) ∙ ap (λ k. value base (xs ++ d ∷ replicate k 1)) n)
 
 -- the next digit
 pub first_next : (base : ℕ) (xs : List ℕ) (d left : ℕ) → value base (xs ++ (d + 1) ∷ replicate left 1) ≡ value base (xs ++ d ∷ replicate left 1) + base ^ left
@@ -140,13 +133,6 @@ first_empty ask text digit left t d l =
     let base = symbol_count ask in
     ap (λ u. value base (map (digit_of ask) u ++ digit ∷ replicate left 1)) t
     ∙ (ap (λ n. value base (n ∷ replicate left 1)) d ∙ (ap (λ n. value base (0 ∷ replicate n 1)) l ∙ value_of_one base 0))
-
-pub empty_numbered : (ask : Inquiry) (text : List Symbol) (n : ℕ) → text ≡ [] → n ≡ 0 → IsNumbered ask text (n + 1)
-empty_numbered ask text n t e =
-    subst (λ (u : List Symbol). IsNumbered ask u (n + 1)) (sym t) (record { symbols = tt; number = omega (arith, e) })
-
-pub empty_accepted : (ask : Inquiry) (text : List Symbol) → IsAsked ask → text ≡ [] → length ask.goals ≡ 0 → IsAccepted ask text
-empty_accepted ask text a t g = subst (λ (u : List Symbol). IsAccepted ask u) (sym t) (accepted_from_runs ask [] a (nil_from_length ask.goals g))
 
 pub empty_refused : (ask : Inquiry) (base left n : ℕ) → IsAsked ask → length ask.goals ≢ 0 → n ≡ 0 → left ≡ 0 → NoneAmong (AcceptedAt ask) n (n + base ^ left)
 empty_refused ask base left n a g e l k low high accepted =

@@ -1,5 +1,5 @@
 -- The standings that symbols lead a reader to: what follows from one, and how it is left again.
-use Rattle.std.proofs.Common.{◌≡◌, ℕ, zero, suc, ◌+◌, ◌-◌, ◌*◌, ◌<◌, ◌≤◌, Bool, true, false, ℤ, List, [], ◌∷◌, ◌++◌, length, get_or, drop, take, refl, sym, ap, subst, inl, inr, ◌∙◌, append_assoc, arith}
+use Rattle.std.proofs.Common.{◌≡◌, ℕ, ◌+◌, ◌-◌, ◌*◌, ◌<◌, ◌≤◌, Bool, true, false, ℤ, List, [], ◌∷◌, ◌++◌, length, get_or, drop, take, refl, sym, ap, subst, inl, inr, ◌∙◌, append_assoc, arith}
 use Rattle.std.specs.Prelude.{◌↔◌, slice_get, Some, None}
 use Rattle.std.specs.List.{AllByRecursion}
 use Rattle.std.proofs.lemmas.List.{append-nil, length-append, length-drop, drop_more, drop-drop, take_more, take_all}
@@ -15,7 +15,7 @@ use Rattle.mg_derive.specs.Symbols.{IsSymbolOf, word_of, letter_of, written_out,
 use Rattle.mg_derive.specs.Acceptance.{IsAccepted}
 use Rattle.mg_derive.specs.Reading.{Runs, Standing, at_first, is_member, goal_after, written_after, Takes, Leads, ends_in_member}
 use Rattle.mg_derive.specs.Room.{Room, HasRoom}
-use Rattle.mg_derive.specs.Walk.{NoneFollow, WritesAtMost, HasRoomForAll, IsShort}
+use Rattle.mg_derive.specs.Walk.{NoneFollow, WritesAtMost, HasRoomForAll, IsShort, InReach}
 use Rattle.mg_derive.proofs.Parts.{all_append, accepted_from_runs, runs_from_accepted}
 use Rattle.mg_derive.proofs.Ends.{room_for_cuts}
 use Rattle.mg_derive.proofs.Steps.{product_length, undone}
@@ -254,6 +254,25 @@ takes_runs ask Cut a b h t rest =
       ),
     )
 
+-- one symbol of a text read in a loop
+next_symbol : (text : List Symbol) (i : ℕ) (symbol : Symbol) → i < length text → symbol ≡ get_or text i symbol → drop i text ≡ symbol ∷ drop (i + 1) text
+next_symbol text i symbol h e = drop_more text i symbol h ∙ ap (λ s. s ∷ drop (i + 1) text) (sym e)
+
+pub runs_on : (ask : Inquiry) (text : List Symbol) (i : ℕ) (symbol : Symbol) (a b : Standing) (Whole : Type 0) → i < length text → symbol ≡ get_or text i symbol → IsReduced a.letters → Takes ask symbol a b
+    → (RunsFrom ask (drop i text) a ↔ Whole) → RunsFrom ask (drop (i + 1) text) b ↔ Whole
+runs_on ask text i symbol a b Whole h e r t runs =
+    let step = takes_runs ask symbol a b r t (drop (i + 1) text) in
+    let split = next_symbol text i symbol h e in (
+      λ k. runs.0 (subst (λ (s : List Symbol). RunsFrom ask s a) (sym split) (step.1 k)),
+      λ k. step.0 (subst (λ (s : List Symbol). RunsFrom ask s a) split (runs.1 k)),
+    )
+
+pub letters_split : (text : List Symbol) (i : ℕ) (symbol : Symbol) → i < length text → symbol ≡ get_or text i symbol → length (letters_alone (drop i text)) ≡ length (letter_of symbol) + length (letters_alone (drop (i + 1) text))
+letters_split text i symbol h e = ap (λ t. length (letters_alone t)) (next_symbol text i symbol h e) ∙ length-append (letter_of symbol) (letters_alone (drop (i + 1) text))
+
+pub written_split : (ask : Inquiry) (text : List Symbol) (i : ℕ) (symbol : Symbol) → i < length text → symbol ≡ get_or text i symbol → length (written_out ask (drop i text)) ≡ length (word_of ask symbol) + length (written_out ask (drop (i + 1) text))
+written_split ask text i symbol h e = ap (λ t. length (written_out ask t)) (next_symbol text i symbol h e) ∙ length-append (word_of ask symbol) (written_out ask (drop (i + 1) text))
+
 pub leads_runs : (ask : Inquiry) (text rest : List Symbol) (a b : Standing) → IsStanding ask a → Leads ask text a b → RunsFrom ask (text ++ rest) a ↔ RunsFrom ask rest b
 leads_runs ask [] rest a b s l = (λ r. subst (λ (t : Standing). RunsFrom ask rest t) l r, λ r. subst (λ (t : Standing). RunsFrom ask rest t) (sym l) r)
 leads_runs ask (x ∷ text) rest a b s l =
@@ -316,11 +335,6 @@ traded l l' more more' most h e k =
     let d : ℕ = l' + 1 - l in
     let f : more ≡ more' + d = omega arith in
     omega (arith, ap (λ n. n * most) f, mul-le-mul_left d h)
-
--- the lengths of the two words differ by what the symbols that are left can write
-pub record InReach (from to letters more most : ℕ) : Type 0 where
-  pub down : from ≤ to + (letters + more * most)
-  pub up : to ≤ from + (letters + more * most)
 
 nearer : (from from' to l l' more more' most step : ℕ) → from ≤ from' + step → from' ≤ from + step → l' + more' * most + step ≤ l + more * most → InReach from' to l' more' most → InReach from to l more most
 nearer from from' to l l' more more' most step a b c r = record { down = omega (arith, r.down); up = omega (arith, r.up) }

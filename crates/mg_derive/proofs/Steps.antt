@@ -1,5 +1,5 @@
 -- The steps of the checker's loops.
-use Rattle.std.proofs.Common.{◌≡◌, ◌≢◌, ℕ, ◌+◌, ◌-◌, ◌*◌, ◌<◌, ◌≤◌, Bool, true, false, ℤ, List, [], ◌∷◌, ◌++◌, length, get_or, take, drop, neg_ℤ, Some, refl, sym, ap, subst, ◌∙◌, append_assoc, arith, eq-eqb, max, reverse, Result, Ok, Err}
+use Rattle.std.proofs.Common.{◌≡◌, ◌≢◌, ℕ, ◌+◌, ◌*◌, ◌<◌, ◌≤◌, Bool, true, false, ℤ, List, [], ◌∷◌, ◌++◌, length, get_or, take, drop, neg_ℤ, Some, refl, sym, ap, subst, ◌∙◌, append_assoc, arith, eq-eqb, reverse, Result, Ok, Err}
 use Rattle.std.specs.Prelude.{◌↔◌, ◌==◌, IsTrue, IfOk, slice_get, nat_abs, not}
 use Rattle.std.proofs.lemmas.Bool.{false≢true}
 use Rattle.std.proofs.lemmas.Bool.Decides.{Decides-eqb}
@@ -7,7 +7,7 @@ use Rattle.std.specs.Ordering.{is_eq}
 use Rattle.std.specs.declared.cmp.Ordering.{Ordering}
 use Rattle.std.specs.declared.cmp.Ordering.TheVariants.{Less, Equal, Greater}
 use Rattle.std.specs.List.{AllByRecursion}
-use Rattle.std.proofs.lemmas.List.{append-nil, length-append, length-take, length-map, length-drop, length-reverse, take_more, drop_more, drop_all, drop-drop, nil_from_length}
+use Rattle.std.proofs.lemmas.List.{append-nil, length-append, length-take, length-map, length-drop, length-reverse, take_more, drop_more, drop_all, nil_from_length}
 use Rattle.std.proofs.Math.Nat.{mul-le-mul_left}
 use Rattle.std.proofs.lemmas.Option.{slice_get_within, get_or_from_slice_get}
 use Rattle.mg_words.specs.Letter.{IsLetterOf, number_of}
@@ -75,45 +75,11 @@ letter_within m place inverse x e h k =
     let a : nat_abs x ≡ place = sym (ap nat_abs e) ∙ abs_number place inverse h in
     record { least = omega arith; most = omega arith }
 
--- ---- one symbol read
-
-pub letter_taken : (ask : Inquiry) (goals : List (List ℤ)) (members : Bool) (l w l' w' : List ℤ) (symbol : Symbol) (x : ℤ) → symbol ≡ Letter x
-    → 0 < length goals → IsLetterOf ask.group.generators x → members ≡ false → IsReduced l → IsReduced w → PushesReduced l x l' → PushesReduced w x w'
-    → (rest : List Symbol) → Runs ask (symbol ∷ rest) goals members l w ↔ Runs ask rest goals members l' w'
-letter_taken ask goals members l w l' w' symbol x e g s m h k p q rest =
-    let el = pushed_is l x l' h p in
-    let ew = pushed_is w x w' k q in
-    let there : Runs ask (Letter x ∷ rest) goals members l w → Runs ask rest goals members l' w' =
-    λ r. subst (λ (b : Bool). Runs ask rest goals b l' w') (sym m) (subst (λ (t : List ℤ). Runs ask rest goals false l' t) (sym ew) (subst (λ (t : List ℤ). Runs ask rest goals false t (free_form (w ++ x ∷ []))) (sym el) r.2.1)) in
-    let back : Runs ask rest goals members l' w' → Runs ask (Letter x ∷ rest) goals members l w =
-    λ r. (g, s, (m, subst (λ (t : List ℤ). Runs ask rest goals false t (free_form (w ++ x ∷ []))) el (subst (λ (t : List ℤ). Runs ask rest goals false l' t) ew (subst (λ (b : Bool). Runs ask rest goals b l' w') m r)))) in
-    subst (λ (t : Symbol). Runs ask (t ∷ rest) goals members l w ↔ Runs ask rest goals members l' w') (sym e) (there, back)
+-- ---- one symbol refused
 
 -- the goal at a place
 pub goal_at : (all : List (List ℤ)) (i : ℕ) (g : List ℤ) → slice_get all i ≡ Some g → drop i all ≡ g ∷ drop (i + 1) all
 goal_at all i g e = drop_more all i [] (slice_get_within all i g e) ∙ ap (λ t. t ∷ drop (i + 1) all) (get_or_from_slice_get all i g [] e)
-
-pub cut_taken : (ask : Inquiry) (all : List (List ℤ)) (i : ℕ) (g : List ℤ) (members : Bool) (l w w' : List ℤ) (symbol : Symbol) → symbol ≡ Cut
-    → 0 < length (drop i all) → slice_get all i ≡ Some g → l ≡ [] → w ≡ g → w' ≡ []
-    → (rest : List Symbol) → Runs ask (symbol ∷ rest) (drop i all) members l w ↔ Runs ask rest (drop (i + 1) all) false l w'
-cut_taken ask all i g members l w w' symbol e n s el ew en rest =
-    let d : drop 1 (drop i all) ≡ drop (i + 1) all = drop-drop 1 i all in
-    let f : drop i all ≡ w ∷ drop 1 (drop i all) = goal_at all i g s ∙ (ap (λ t. t ∷ drop (i + 1) all) (sym ew) ∙ ap (λ t. w ∷ t) (sym d)) in
-    let there : Runs ask (Cut ∷ rest) (drop i all) members l w → Runs ask rest (drop (i + 1) all) false l w' =
-    λ r. subst (λ (t : List ℤ). Runs ask rest (drop (i + 1) all) false l t) (sym en)
-    (subst (λ (t : List ℤ). Runs ask rest (drop (i + 1) all) false t []) (sym el) (subst (λ (t : List (List ℤ)). Runs ask rest t false [] []) d r.2.2)) in
-    let back : Runs ask rest (drop (i + 1) all) false l w' → Runs ask (Cut ∷ rest) (drop i all) members l w =
-    λ r. (
-      n,
-      tt,
-      (
-        f,
-        el,
-        subst (λ (t : List (List ℤ)). Runs ask rest t false [] []) (sym d)
-            (subst (λ (t : List ℤ). Runs ask rest (drop (i + 1) all) false t []) el (subst (λ (t : List ℤ). Runs ask rest (drop (i + 1) all) false l t) en r)),
-      ),
-    ) in
-    subst (λ (t : Symbol). Runs ask (t ∷ rest) (drop i all) members l w ↔ Runs ask rest (drop (i + 1) all) false l w') (sym e) (there, back)
 
 pub cut_refused_letters : (ask : Inquiry) (goals : List (List ℤ)) (members : Bool) (l w : List ℤ) (symbol : Symbol) → symbol ≡ Cut → l ≢ []
     → (rest : List Symbol) → Runs ask (symbol ∷ rest) goals members l w → ⊥
@@ -127,7 +93,7 @@ cut_refused_goal ask all i g members l w symbol e s n rest r =
     let f : g ∷ drop (i + 1) all ≡ w ∷ drop 1 (drop i all) = sym (goal_at all i g s) ∙ h.2.0 in
     n (cc f)
 
--- ---- one symbol read, exactly
+-- ---- one symbol read
 
 pub letter_exact : (ask : Inquiry) (goal : ℕ) (members : Bool) (l w l' w' : List ℤ) (symbol : Symbol) (x : ℤ) → symbol ≡ Letter x → goal < length ask.goals → IsLetterOf ask.group.generators x → members ≡ false
     → IsReduced l → IsReduced w → PushesReduced l x l' → PushesReduced w x w' → Takes ask symbol (record { goal = goal; members = members; letters = l; written = w }) (record { goal = goal; members = members; letters = l'; written = w' })
@@ -242,15 +208,6 @@ finished ask text i goal members l w r a g n e h =
     (there, back)
 
 -- ---- room for texts of a length
-
-pub longest_word : (ask : Inquiry) (relator member : ℕ) → ((k : ℕ) → k < length ask.group.relators → length (get_or ask.group.relators k []) ≤ relator)
-    → ((k : ℕ) → k < length ask.subgroup → length (get_or ask.subgroup k []) ≤ member) → (symbol : Symbol) → IsSymbolOf ask symbol → length (word_of ask symbol) ≤ max (max relator member) 1
-longest_word ask relator member h k (Letter x) s = omega arith
-longest_word ask relator member h k (Relator place inverse) s =
-    omega (arith, signed_length inverse (get_or ask.group.relators (place - 1) []), h (place - 1) (omega (arith, s.least, s.most)))
-longest_word ask relator member h k (Member place inverse) s =
-    omega (arith, signed_length inverse (get_or ask.subgroup (place - 1) []), k (place - 1) (omega (arith, s.least, s.most)))
-longest_word ask relator member h k Cut s = omega arith
 
 written_within : (ask : Inquiry) (most : ℕ) → ((symbol : Symbol) → IsSymbolOf ask symbol → length (word_of ask symbol) ≤ most)
     → (text : List Symbol) → AllByRecursion (IsSymbolOf ask) text → length (written_out ask text) ≤ most * length text

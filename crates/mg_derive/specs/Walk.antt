@@ -1,5 +1,5 @@
 -- The walk of a search through the texts of an Ask: where it stands, and which numbers it has passed.
-use Rattle.std.specs.Prelude.{◌≡◌, ℕ, ◌+◌, ◌-◌, ◌^◌, ◌≤◌, ◌⊎◌, List, [], ◌∷◌, ◌++◌, length, map, replicate}
+use Rattle.std.specs.Prelude.{◌≡◌, ℕ, ◌+◌, ◌-◌, ◌*◌, ◌^◌, ◌≤◌, ◌⊎◌, List, [], ◌∷◌, ◌++◌, length, map, replicate}
 use Rattle.std.specs.List.{AllByRecursion}
 use Rattle.mg_numbers.specs.Texts.{value}
 use Rattle.mg_numbers.specs.Plain.{NoneAmong}
@@ -55,6 +55,16 @@ IsShort ask symbols = (symbols ≤ 62) ⊎ ((symbol_count ask ≡ 1) × (symbols
 -- the value of the first text where the walk stands: the digits of its text, its digit, and then digits 1
 abbrev pub first_at : Inquiry → Walk → ℕ
 first_at ask walk = value (symbol_count ask) (map (digit_of ask) walk.text.symbols ++ walk.digit ∷ replicate walk.left 1)
+
+-- none of the texts where the walk stands is accepted
+abbrev pub NoneHere : Inquiry → Walk → Type 0
+NoneHere ask walk = NoneAmong (AcceptedAt ask) (first_at ask walk) (first_at ask walk + walk.base ^ walk.left)
+
+-- words of two lengths may be made one by some symbols that write a letter each and some more that write at most
+-- `most` letters each
+pub record InReach (from to letters more most : ℕ) : Type 0 where
+  pub down : from ≤ to + (letters + more * most)
+  pub up : to ≤ from + (letters + more * most)
 
 -- what a walk keeps true while it goes on: no number before `next` is accepted, and `next` is that of the first text
 -- where the walk stands, or so great that it is never reached

@@ -78,14 +78,11 @@ pub(crate) fn take(
     requires written_reduced { IsReduced written.old.letters }
     requires letters { length letters.old.letters + length (letter_of symbol) ≤ letters.old.capacity }
     requires written { length written.old.letters + length (word_of ask.now symbol) ≤ written.old.capacity }
-    ensures taken { IfSome result (λ next. (rest : List SymbolOf) →
-        Runs ask.now (symbol ∷ rest) (drop stand.goal ask.now.goals) stand.members letters.old.letters written.old.letters
-        ↔ Runs ask.now rest (drop next.goal ask.now.goals) next.members letters.new.letters written.new.letters) }
-    ensures refused { IfNone result ((rest : List SymbolOf) →
-        Runs ask.now (symbol ∷ rest) (drop stand.goal ask.now.goals) stand.members letters.old.letters written.old.letters → ⊥) }
-    ensures exact { IfSome result (λ next. Takes ask.now symbol
+    ensures taken { IfSome result (λ next. Takes ask.now symbol
         (record { goal = stand.goal; members = stand.members; letters = letters.old.letters; written = written.old.letters })
         (record { goal = next.goal; members = next.members; letters = letters.new.letters; written = written.new.letters })) }
+    ensures refused { IfNone result ((rest : List SymbolOf) →
+        Runs ask.now (symbol ∷ rest) (drop stand.goal ask.now.goals) stand.members letters.old.letters written.old.letters → ⊥) }
     ensures same { result ≡ None → (letters.new.letters ≡ letters.old.letters) × (written.new.letters ≡ written.old.letters) }
     ensures goal { IfSome result (λ next. next.goal ≤ length ask.now.goals) }
     ensures letters_reduced { IsReduced letters.new.letters }

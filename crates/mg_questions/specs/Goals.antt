@@ -25,6 +25,7 @@ conjugates_by x hs = flat_map (λ h. (x ++ h ++ inv x) ∷ (inv x ++ h ++ x) ∷
 abbrev pub conjugates : List (List ℤ) → List (List ℤ) → List (List ℤ)
 conjugates xs hs = flat_map (λ x. conjugates_by x hs) xs
 
+-- the group that is asked about
 abbrev pub group_of : Question → Group
 group_of (WordIsOne group word) = group
 group_of (WordsEqual group left right) = group
@@ -37,6 +38,7 @@ group_of (Extends source target map) = target
 group_of (Onto target map) = target
 group_of (InKernel target map word) = target
 
+-- the words of the subgroup in which the goals are to lie
 abbrev pub subgroup_of : Question → List (List ℤ)
 subgroup_of (WordIsOne group word) = []
 subgroup_of (WordsEqual group left right) = []
@@ -49,6 +51,7 @@ subgroup_of (Extends source target map) = []
 subgroup_of (Onto target map) = map
 subgroup_of (InKernel target map word) = []
 
+-- the goals, written out
 abbrev pub goals_of : Question → List (List ℤ)
 goals_of (WordIsOne group word) = word.letters ∷ []
 goals_of (WordsEqual group left right) = (left.letters ++ inv right.letters) ∷ []

@@ -1,12 +1,12 @@
 //! Which questions have no Ask, since they have too many goals or too long a goal.
-ghost use Rattle.std.specs.Prelude.{◌≡◌, ℕ, ◌≤◌, ◌<◌, ◌*◌, List as ListOf, ℤ, MatchOption, length, map as map_of};
+ghost use Rattle.std.specs.Prelude.{◌≡◌, ◌≤◌, ◌<◌, ◌*◌, MatchOption, length, map as map_of};
 ghost use Rattle.std.specs.List.{AllByRecursion};
 ghost use Rattle.mg_words.specs.Word.{letters_of};
 ghost use Rattle.mg_present.specs.Image.{image_of};
-ghost use Rattle.mg_questions.specs.Goals.{goals_of};
-ghost use Rattle.mg_questions.specs.Asking.{AreAllowed, IsFit, IsGiven, IsRefused};
 ghost use Rattle.mg_present.specs.declared.presentation.TheConstants.{MOST_GENERATORS};
 ghost use Rattle.mg_present.specs.declared.ask.TheConstants.{MOST_SUBGROUP_WORDS};
+ghost use Rattle.mg_questions.specs.Goals.{goals_of};
+ghost use Rattle.mg_questions.specs.Asking.{AreAllowed, IsFit, IsGiven, IsRefused};
 ghost use Rattle.mg_questions.specs.declared.question.TheConstants.{MOST_WORD_LETTERS};
 
 use crate::goals::asked_group;

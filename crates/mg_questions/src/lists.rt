@@ -1,5 +1,5 @@
 //! Lists of words: generators, commutators and conjugates, written out, and freely reduced forms.
-ghost use Rattle.std.specs.Prelude.{◌≡◌, ℕ, ◌≤◌, [], ◌∷◌, ◌++◌, IfOk, OnOk, length, map as map_of};
+ghost use Rattle.std.specs.Prelude.{◌≡◌, ◌++◌, IfOk, OnOk, length, map as map_of};
 ghost use Rattle.std.specs.List.{AllByRecursion, AllZip};
 ghost use Rattle.mg_words.specs.Word.{IsOver, commutator_of, inv, letters_of};
 ghost use Rattle.mg_words.specs.Reduction.{IsFormOf};

@@ -17,7 +17,7 @@ use mg_words::{Letter, Procedure, Word, Words};
 use mg_workers::End;
 use std::alloc::Global;
 
-/// What a report says of one search of a question. 
+/// What a report says of one search of a question.
 #[derive(Clone, Copy, Debug, PartialEq, Eq)]
 pub struct SearchLine {
     /// The procedure.

@@ -1,4 +1,3 @@
-use Rattle.std.proofs.Common.{◌≡◌}
 use Rattle.mg_questions.proofs.Exact.{content_exact, content_itself}
 use Rattle.mg_questions.proofs.laws.equal_questions_are_one.Goals as goal
 

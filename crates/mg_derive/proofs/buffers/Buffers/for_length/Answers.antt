@@ -1,4 +1,4 @@
-use Rattle.std.proofs.Common.{◌≡◌, ◌*◌, arith}
+use Rattle.std.proofs.Common.{arith}
 use Rattle.mg_derive.proofs.Steps.{room_for_length, both_ok}
 use Rattle.mg_derive.proofs.buffers.Buffers.for_length.Goals as goal
 

@@ -1,4 +1,4 @@
-use Rattle.std.proofs.Common.{◌≡◌, ℕ, ◌+◌, ◌-◌, ◌≤◌, ap, refl, subst, sym, ◌∙◌, arith}
+use Rattle.std.proofs.Common.{◌≡◌, ℕ, ◌+◌, ◌-◌, ap, refl, subst, arith}
 use Rattle.mg_derive.specs.Acceptance.{IsNumbered}
 use Rattle.mg_derive.proofs.Passing.{none_from, finds_first}
 use Rattle.mg_derive.proofs.search.Enumeration.advance.Goals as goal

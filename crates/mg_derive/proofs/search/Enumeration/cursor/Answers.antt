@@ -1,4 +1,4 @@
-use Rattle.std.proofs.Common.{◌≡◌, ◌-◌, ◌≤◌, true, subst, arith}
+use Rattle.std.proofs.Common.{◌≡◌, true, subst, arith}
 use Rattle.mg_numbers.specs.Plain.{NoneAmong}
 use Rattle.mg_derive.specs.Acceptance.{AcceptedAt}
 use Rattle.mg_derive.specs.Search.{Searched}

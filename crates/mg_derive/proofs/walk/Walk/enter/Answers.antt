@@ -1,4 +1,4 @@
-use Rattle.std.proofs.Common.{◌≡◌, ℕ, ◌+◌, ◌≤◌, ◌++◌, ◌∷◌, [], List, length, refl, sym, ap, subst, ◌∙◌, arith}
+use Rattle.std.proofs.Common.{◌++◌, ◌∷◌, [], List, length, refl, sym, subst, arith}
 use Rattle.std.proofs.lemmas.List.{length-append}
 use Rattle.mg_derive.specs.declared.symbol.Symbol.{Symbol}
 use Rattle.mg_derive.specs.Reading.{Standing, Leads, at_first}
@@ -49,7 +49,7 @@ pub returns-then-may_end-clause-place : goal.returns-then-may_end-clause-place
 returns-then-may_end-clause-place c =
     let at = standing_of c.args.self.now in
     let next : Standing = record { goal = c.in-Some.stand.goal; members = c.in-Some.stand.members; letters = c.take.new.letters.letters; written = c.take.new.written.letters } in
-    let l = leads_on c.args.ask.now c.args.self.now.text.symbols c.symbol_of-symbol.result at_first at next c.requires.place.reads c.in-Some.ensures.exact in
+    let l = leads_on c.args.ask.now c.args.self.now.text.symbols c.symbol_of-symbol.result at_first at next c.requires.place.reads c.in-Some.ensures.taken in
     let e = c.requires.place.equipped in record {
       equipped = record {
         asked = e.asked;
@@ -68,7 +68,7 @@ pub take_back-requires-clause-letters : goal.take_back-requires-clause-letters
 take_back-requires-clause-letters c =
     let at = standing_of c.args.self.now in
     let next : Standing = record { goal = c.in-Some.stand.goal; members = c.in-Some.stand.members; letters = c.take.new.letters.letters; written = c.take.new.written.letters } in
-    let l = leads_on c.args.ask.now c.args.self.now.text.symbols c.symbol_of-symbol.result at_first at next c.requires.place.reads c.in-Some.ensures.exact in
+    let l = leads_on c.args.ask.now c.args.self.now.text.symbols c.symbol_of-symbol.result at_first at next c.requires.place.reads c.in-Some.ensures.taken in
     let r = room_for_more c.args.ask.now (c.args.self.now.text.symbols ++ c.symbol_of-symbol.result ∷ []) c.symbol_of-symbol.result next (record { letters = c.args.self.now.letters.capacity; written = c.args.self.now.written.capacity }) c.requires.place.equipped.room
     (shorter c.args.ask.now (text_length c.args.self.now) (length (c.args.self.now.text.symbols ++ c.symbol_of-symbol.result ∷ [])) (omega (arith, length-append c.args.self.now.text.symbols (c.symbol_of-symbol.result ∷ []))) c.requires.short) l c.symbol_of-symbol.ensures.symbol in
     omega (arith, r.letters, c.take.ensures.letters_room)
@@ -77,7 +77,7 @@ pub take_back-requires-clause-written : goal.take_back-requires-clause-written
 take_back-requires-clause-written c =
     let at = standing_of c.args.self.now in
     let next : Standing = record { goal = c.in-Some.stand.goal; members = c.in-Some.stand.members; letters = c.take.new.letters.letters; written = c.take.new.written.letters } in
-    let l = leads_on c.args.ask.now c.args.self.now.text.symbols c.symbol_of-symbol.result at_first at next c.requires.place.reads c.in-Some.ensures.exact in
+    let l = leads_on c.args.ask.now c.args.self.now.text.symbols c.symbol_of-symbol.result at_first at next c.requires.place.reads c.in-Some.ensures.taken in
     let r = room_for_more c.args.ask.now (c.args.self.now.text.symbols ++ c.symbol_of-symbol.result ∷ []) c.symbol_of-symbol.result next (record { letters = c.args.self.now.letters.capacity; written = c.args.self.now.written.capacity }) c.requires.place.equipped.room
     (shorter c.args.ask.now (text_length c.args.self.now) (length (c.args.self.now.text.symbols ++ c.symbol_of-symbol.result ∷ [])) (omega (arith, length-append c.args.self.now.text.symbols (c.symbol_of-symbol.result ∷ []))) c.requires.short) l c.symbol_of-symbol.ensures.symbol in
     omega (arith, r.written, c.take.ensures.written_room)
@@ -86,19 +86,19 @@ pub take_back-requires-clause-goal_room : goal.take_back-requires-clause-goal_ro
 take_back-requires-clause-goal_room c =
     let at = standing_of c.args.self.now in
     let next : Standing = record { goal = c.in-Some.stand.goal; members = c.in-Some.stand.members; letters = c.take.new.letters.letters; written = c.take.new.written.letters } in
-    let l = leads_on c.args.ask.now c.args.self.now.text.symbols c.symbol_of-symbol.result at_first at next c.requires.place.reads c.in-Some.ensures.exact in
+    let l = leads_on c.args.ask.now c.args.self.now.text.symbols c.symbol_of-symbol.result at_first at next c.requires.place.reads c.in-Some.ensures.taken in
     λ cut.
     let r = room_for_goal c.args.ask.now c.args.self.now.text.symbols c.symbol_of-symbol.result at next (record { letters = c.args.self.now.letters.capacity; written = c.args.self.now.written.capacity }) c.requires.place.equipped.room
-    (shorter c.args.ask.now (text_length c.args.self.now) (length c.args.self.now.text.symbols) (omega arith) c.requires.short) c.requires.place.reads c.in-Some.ensures.exact cut in
+    (shorter c.args.ask.now (text_length c.args.self.now) (length c.args.self.now.text.symbols) (omega arith) c.requires.short) c.requires.place.reads c.in-Some.ensures.taken cut in
     omega (arith, r, c.take.ensures.written_room)
 
 pub returns-clause-place : goal.returns-clause-place
 returns-clause-place c =
     let at = standing_of c.args.self.now in
     let next : Standing = record { goal = c.in-Some.stand.goal; members = c.in-Some.stand.members; letters = c.take.new.letters.letters; written = c.take.new.written.letters } in
-    let l = leads_on c.args.ask.now c.args.self.now.text.symbols c.symbol_of-symbol.result at_first at next c.requires.place.reads c.in-Some.ensures.exact in
+    let l = leads_on c.args.ask.now c.args.self.now.text.symbols c.symbol_of-symbol.result at_first at next c.requires.place.reads c.in-Some.ensures.taken in
     let s = stands c.args.ask.now c.args.self.now.text.symbols at c.requires.place.reads in
-    let back = c.take_back.ensures.back at next refl s.letters s.written c.in-Some.ensures.exact refl refl in
+    let back = c.take_back.ensures.back at next refl s.letters s.written c.in-Some.ensures.taken refl refl in
     let e = c.requires.place.equipped in record {
       equipped = record {
         asked = e.asked;
@@ -117,6 +117,6 @@ pub returns-clause-refused : goal.returns-clause-refused
 returns-clause-refused c =
     let at = standing_of c.args.self.now in
     let next : Standing = record { goal = c.in-Some.stand.goal; members = c.in-Some.stand.members; letters = c.take.new.letters.letters; written = c.take.new.written.letters } in
-    let l = leads_on c.args.ask.now c.args.self.now.text.symbols c.symbol_of-symbol.result at_first at next c.requires.place.reads c.in-Some.ensures.exact in
+    let l = leads_on c.args.ask.now c.args.self.now.text.symbols c.symbol_of-symbol.result at_first at next c.requires.place.reads c.in-Some.ensures.taken in
     λ _. none_here c.args.ask.now c.args.self.now.base c.args.self.now.text.symbols c.symbol_of-symbol.result c.args.self.now.digit c.args.self.now.left c.requires.place.equipped.base (symbols_read c.args.ask.now c.args.self.now.text.symbols at_first at c.requires.place.reads) c.symbol_of-symbol.ensures.symbol c.symbol_of-symbol.ensures.digit
     (none_from c.args.ask.now (c.args.self.now.text.symbols ++ c.symbol_of-symbol.result ∷ []) c.args.self.now.left next c.requires.place.equipped.asked l (c.may_end.ensures.refused c.if-may_end.false))

@@ -1,7 +1,6 @@
 use Rattle.std.proofs.lemmas.Bool.{false≢true}
 use Rattle.mg_derive.proofs.Passing.{first_empty, empty_refused}
-
-use Rattle.std.proofs.Common.{◌≡◌, ◌+◌, ◌++◌, ◌∷◌, List, length, eq-eqb, map, replicate, refl, sym, ap, subst, ◌∙◌, arith, ℕ}
+use Rattle.std.proofs.Common.{◌≡◌, ◌+◌, ◌++◌, ◌∷◌, length, eq-eqb, map, replicate, sym, ap, subst, ◌∙◌, arith, ℕ}
 use Rattle.std.proofs.lemmas.List.{drop_all}
 use Rattle.mg_derive.specs.Symbols.{digit_of}
 use Rattle.mg_derive.specs.Acceptance.{IsNumbered}

@@ -1,4 +1,4 @@
-use Rattle.std.proofs.Common.{◌≡◌, ℕ, ◌+◌, ◌-◌, ◌<◌, ◌≤◌, Bool, true, false, ℤ, List, [], ◌∷◌, length, drop, sym, ap, subst, ◌∙◌, inl, inr, arith, eq-eqb}
+use Rattle.std.proofs.Common.{◌≡◌, ◌+◌, ◌-◌, Bool, ℤ, List, [], length, drop, sym, ap, subst, ◌∙◌, arith, eq-eqb}
 use Rattle.std.specs.Prelude.{slice_get, Some}
 use Rattle.std.proofs.lemmas.Bool.{false≢true}
 use Rattle.std.proofs.lemmas.List.{length-drop, drop_all}
@@ -45,4 +45,7 @@ returns-clause-refused c = λ f rest long r.
     let lengths : length c.letters-goal.result.now ≡ length g = ap length c.letters-goal.ensures in
     let written : length c.letters-written.result.now ≡ length c.args.self.now.written.letters = ap length c.letters-written.ensures in
     let letters : length c.letters-letters.result.now ≡ length c.args.self.now.letters.letters = ap length c.letters-letters.ensures in
-    elim (c.is_in_reach.ensures f) [ inl far ↦ absurd (omega (arith, far, near.up, near.down)) | inr far ↦ absurd (omega (arith, far, near.up, near.down)) ]
+    false≢true (sym f ∙ c.is_in_reach.ensures.1 (record {
+      down = omega (arith, near.down, lengths, written, letters);
+      up = omega (arith, near.up, lengths, written, letters);
+    }))

@@ -1,4 +1,4 @@
-use Rattle.std.proofs.Common.{◌≡◌, ◌+◌, ◌-◌, ◌^◌, ◌≤◌, subst, ℕ, arith, sym}
+use Rattle.std.proofs.Common.{◌≡◌, ◌-◌, ◌^◌, subst, ℕ, arith}
 use Rattle.std.proofs.Math.Nat.{one-le-pow}
 use Rattle.mg_numbers.specs.Plain.{NoneAmong}
 use Rattle.mg_derive.specs.Acceptance.{AcceptedAt}
