@@ -5,7 +5,8 @@ use Rattle.std.specs.Fmt.{decimal}
 use Rattle.mg_core.specs.declared.entries.Entry.{Entry}
 use Rattle.mg_words.specs.declared.procedure.Procedure.{Procedure}
 use Rattle.mg_certs.specs.Claim.{Fact, settled, model_of}
-use Rattle.mg_report.specs.Report.{line, ask_text, verdict_text, procedure_piece}
+use Rattle.mg_certtext.specs.Pieces.{line}
+use Rattle.mg_report.specs.Report.{ask_text, verdict_line, procedure_piece}
 
 -- the texts of members that are numbered from a number on, one behind another
 abbrev pub numbered : {X : Type 0} → (ℕ → X → List ℕ) → ℕ → List X → List ℕ
@@ -19,7 +20,7 @@ standard_names generators = map (λ n. codes "x" ++ decimal n) (range_with_len 1
 -- a fact: what is asked, with the verdict; there is no kind of model yet
 abbrev pub fact_text : ℕ → Fact → List ℕ
 fact_text n (settled ask verdict) =
-    line (codes "fact") (decimal n ∷ codes "settled" ∷ []) ++ ask_text (standard_names ask.group.generators) ask ++ verdict_text (standard_names ask.group.generators) verdict
+    line (codes "fact") (decimal n ∷ codes "settled" ∷ []) ++ ask_text (standard_names ask.group.generators) ask ++ verdict_line (standard_names ask.group.generators) verdict
 fact_text n (model_of group model) = elim model [ ]
 
 -- all facts of a log

@@ -1,6 +1,11 @@
 //! The texts that a session prints: reports, the facts of a log, the log, and refused steps.
 #![tactic(auto)]
 
-mod texts;
+mod asks;
+mod blocks;
 
-pub use texts::{QuestionBlock, SearchLine, report};
+pub use blocks::{QuestionBlock, SearchLine, report};
+pub use mg_lists::NoMemory;
+
+#[cfg(test)]
+mod tests;

@@ -4,9 +4,14 @@ ghost use Rattle.mg_present.specs.Ask.{IsReducedOver};
 ghost use Rattle.mg_present.specs.Presentation.{IsRelator};
 
 use super::*;
-use mg_present::Presentation;
-use mg_words::{is_over, is_reduced};
-use std::alloc::AllocError;
+use mg_derive::{Derivation, Symbol};
+use mg_ledger::Account;
+use mg_lists::List;
+use mg_present::{Ask, Presentation};
+use mg_turn::Limit;
+use mg_words::{Letter, Procedure, Word, Words, is_over, is_reduced};
+use mg_workers::End;
+use std::alloc::{AllocError, Global};
 use std::test::*;
 
 const A: Letter = Letter {

@@ -1,8 +1,9 @@
 use Rattle.std.proofs.Common.{◌≡◌, ◌+◌, ◌≤◌, ◌∷◌, ◌++◌, drop}
 use Rattle.std.specs.Prelude.{map}
-use Rattle.mg_report.specs.Report.{spaced, run_piece, runs_of}
-use Rattle.mg_report.proofs.Runs.{more_runs}
-use Rattle.mg_report.proofs.texts.push_runs.Given as goal
+use Rattle.mg_certtext.specs.Pieces.{spaced}
+use Rattle.mg_certtext.specs.Words.{run_piece, runs_of}
+use Rattle.mg_certtext.proofs.Runs.{more_runs}
+use Rattle.mg_certtext.proofs.words.push_runs.Given as goal
 
 -- what is written, with the run at hand in front of the runs of the rest, is the whole word's
 abbrev pub invariant-loop-letter : goal.invariant-loop-letter

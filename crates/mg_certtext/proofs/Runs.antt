@@ -5,7 +5,8 @@ use Rattle.std.specs.Bool.{Decides}
 use Rattle.std.specs.Ordering.{int_eq}
 use Rattle.std.proofs.lemmas.Bool.Decides.{Decides-int_eq}
 use Rattle.std.proofs.lemmas.Grind.{common_steps}
-use Rattle.mg_report.specs.Report.{onto_runs, runs_of, spaced, run_piece}
+use Rattle.mg_certtext.specs.Pieces.{spaced}
+use Rattle.mg_certtext.specs.Words.{onto_runs, runs_of, run_piece}
 
 -- a letter, as often as this, in front of runs
 abbrev pub more_runs : ℤ → ℕ → List (ℤ × ℕ) → List (ℤ × ℕ)

@@ -1,7 +1,7 @@
 use Rattle.std.proofs.Common.{sym, ◌∙◌, arith}
-use Rattle.mg_report.proofs.Runs.{goes_on_same, goes_on_other}
-use Rattle.mg_report.proofs.texts.push_runs.Goals as goal
-use Rattle.mg_report.proofs.texts.push_runs.Goals.{then-same, else-same+in_ok-push_run}
+use Rattle.mg_certtext.proofs.Runs.{goes_on_same, goes_on_other}
+use Rattle.mg_certtext.proofs.words.push_runs.Goals as goal
+use Rattle.mg_certtext.proofs.words.push_runs.Goals.{then-same, else-same+in_ok-push_run}
 
 pub loop-letter-preserved : goal.loop-letter-preserved
 loop-letter-preserved c =
