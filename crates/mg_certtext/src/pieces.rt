@@ -22,11 +22,7 @@ pub fn push_piece(out: &mut Vec<u8>, piece: &[u8]) -> Result<(), NoMemory>
 }
 
 // Pushes the decimal digits of a number.
-pub(crate) fn push_decimal(
-    alloc: Global,
-    out: &mut Vec<u8>,
-    number: u128,
-) -> Result<(), NoMemory>
+pub(crate) fn push_decimal(alloc: Global, out: &mut Vec<u8>, number: u128) -> Result<(), NoMemory>
     ensures { OnOk result (out.new.items ≡ out.old.items ++ decimal number) }
 {
     let digits = number.to_string(alloc)?;

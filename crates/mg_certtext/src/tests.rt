@@ -67,7 +67,13 @@ fn words_are_runs(rt: HostRuntime) -> Result<(), Fail> {
 #[test]
 fn a_run_has_one_sign(rt: HostRuntime) -> Result<(), Fail> {
     assert!(rt; words_print(rt.alloc(), &[&[A_BACK, A_BACK, B]], b" a^-2 b")?);
-    assert!(rt; words_print(rt.alloc(), &[&[], &[A_BACK], &[A, A_BACK]], b" 1 , a^-1 , a a^-1")?);
+    assert!(rt;
+        words_print(
+            rt.alloc(),
+            &[&[], &[A_BACK], &[A, A_BACK]],
+            b" 1 , a^-1 , a a^-1"
+        )?
+    );
     Ok(())
 }
 

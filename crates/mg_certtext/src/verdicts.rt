@@ -53,11 +53,7 @@ fn push_symbol(
 
 /// The text of the verdict that a derivation shows, where the generators have these names in order. It has no
 /// end of a line.
-pub fn print(
-    alloc: Global,
-    text: &Derivation,
-    names: &[List<u8>],
-) -> Result<Vec<u8>, NoMemory>
+pub fn print(alloc: Global, text: &Derivation, names: &[List<u8>]) -> Result<Vec<u8>, NoMemory>
     ensures { IfOk result (λ printed. printed.items ≡ verdict_text names.now (affirmed (derivation text.now.symbols))) }
 {
     let mut out = Vec::new(alloc);

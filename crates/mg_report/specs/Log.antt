@@ -54,9 +54,12 @@ abbrev pub fate_pieces : Fate → List (List ℕ)
 fate_pieces (kept records) = codes "kept" ∷ decimal records ∷ []
 fate_pieces (dropped_by fact) = codes "dropped" ∷ codes "by" ∷ decimal fact ∷ []
 
-abbrev pub entry_text : ℕ → EntryLine → List ℕ
-entry_text n entry =
-    line (codes "entry") (decimal n ∷ codes "pass" ∷ decimal entry.pass ∷ codes "search" ∷ decimal entry.search ∷ codes "turn" ∷ decimal entry.turn ∷ codes "units" ∷ decimal entry.units ∷ fate_pieces entry.fate)
+-- which turn it was, and its units
+abbrev pub turn_pieces : EntryLine → List (List ℕ)
+turn_pieces entry = codes "pass" ∷ decimal entry.pass ∷ codes "search" ∷ decimal entry.search ∷ codes "turn" ∷ decimal entry.turn ∷ codes "units" ∷ decimal entry.units ∷ []
+
+unfoldable pub entry_text : ℕ → EntryLine → List ℕ
+entry_text n entry = line (codes "entry") (decimal n ∷ turn_pieces entry ++ fate_pieces entry.fate)
 
 abbrev pub sum_text : SumLine → List ℕ
 sum_text sum = line (codes "sum") (decimal sum.search ∷ sum.name ∷ procedure_piece sum.procedure ∷ codes "units" ∷ decimal sum.units ∷ [])

@@ -136,3 +136,82 @@ fn an_open_question(rt: HostRuntime) -> Result<(), Fail> {
     assert_eq!(rt; printed.as_slice(), OPEN);
     Ok(())
 }
+
+const FACTS: &[u8] =
+    b"facts\nfact 1 settled\ngroup < x1 , x2 | x1^2 , x2^3 , x1 x2 x1 x2 >\nsubgroup < >\ngoals < x1 x2 x1 x2 >\nyes derivation r3 ;\nend\n";
+
+#[test]
+fn a_fact_of_a_log(rt: HostRuntime) -> Result<(), Fail> {
+    let relators: [&[Letter]; 3] = [&[A, A], &[B, B, B], &[A, B, A, B]];
+    let ask = asks(rt.alloc(), 2, &relators, &[A, B, A, B])?;
+    let sign = Symbol::Relator {
+        place: 3,
+        inverse: false,
+    };
+    let text = Derivation::from_symbols(rt.alloc(), &[sign, Symbol::Cut])?;
+    let fact = FactBlock {
+        ask: &ask,
+        text: &text,
+    };
+    let printed = report_facts(rt.alloc(), &[fact])?;
+    assert_eq!(rt; printed.as_slice(), FACTS);
+    Ok(())
+}
+
+const LOG: &[u8] =
+    b"log\nentry 1 pass 1 search 1 turn 0 units 111 kept 1\nsum 1 q derive units 111\nend\n";
+
+#[test]
+fn a_log_of_one_turn(rt: HostRuntime) -> Result<(), Fail> {
+    let entry = EntryLine {
+        pass: 1,
+        search: 1,
+        turn: 0,
+        units: 111,
+        fate: Fate::Kept { records: 1 },
+    };
+    let sum = SumLine {
+        search: 1,
+        name: b"q",
+        procedure: Procedure::Derive,
+        units: 111,
+    };
+    let printed = report_log(rt.alloc(), &[entry], &[sum])?;
+    assert_eq!(rt; printed.as_slice(), LOG);
+    Ok(())
+}
+
+const DROPPED: &[u8] =
+    b"log\nentry 1 pass 1 search 2 turn 0 units 21 kept 1\nentry 2 pass 4 search 3 turn 5 units 21 dropped by 1\nend\n";
+
+#[test]
+fn a_turn_that_came_too_late(rt: HostRuntime) -> Result<(), Fail> {
+    let kept = EntryLine {
+        pass: 1,
+        search: 2,
+        turn: 0,
+        units: 21,
+        fate: Fate::Kept { records: 1 },
+    };
+    let dropped = EntryLine {
+        pass: 4,
+        search: 3,
+        turn: 5,
+        units: 21,
+        fate: Fate::DroppedBy { fact: 1 },
+    };
+    let printed = report_log(rt.alloc(), &[kept, dropped], &[])?;
+    assert_eq!(rt; printed.as_slice(), DROPPED);
+    Ok(())
+}
+
+#[test]
+fn refused_steps(rt: HostRuntime) -> Result<(), Fail> {
+    let fund = fund_refusal(rt.alloc(), 4_611_686_018_427_387_904)?;
+    assert_eq!(rt; fund.as_slice(), b"fund refused: funded 4611686018427387904\n".as_slice());
+    let grant = grant_refusal(rt.alloc(), 5)?;
+    assert_eq!(rt; grant.as_slice(), b"grant refused: purse 5\n".as_slice());
+    let cancel = cancel_refusal(rt.alloc())?;
+    assert_eq!(rt; cancel.as_slice(), b"cancel refused: no search\n".as_slice());
+    Ok(())
+}
