@@ -1,10 +1,8 @@
 -- The runs of a word, found from its front.
 use Rattle.std.proofs.Common.{◌≡◌, ℕ, suc, ◌+◌, ◌<◌, Bool, true, false, cond, List, [], ◌∷◌, ◌++◌, length, get_or, drop, drop-cons, refl, sym, ap, ◌∙◌, append_assoc, append-nil, add-one, arith}
 use Rattle.std.specs.Prelude.{ℤ, map}
-use Rattle.std.specs.Bool.{Decides}
 use Rattle.std.specs.Ordering.{int_eq}
 use Rattle.std.proofs.lemmas.Bool.Decides.{Decides-int_eq}
-use Rattle.std.proofs.lemmas.Grind.{common_steps}
 use Rattle.mg_certtext.specs.Pieces.{spaced}
 use Rattle.mg_certtext.specs.Words.{onto_runs, runs_of, run_piece}
 

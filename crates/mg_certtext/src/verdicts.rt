@@ -1,5 +1,5 @@
 //! The texts of verdicts.
-ghost use Rattle.std.specs.Prelude.{◌≡◌, [], ◌∷◌, ◌++◌, IfOk, OnOk, map, codes};
+ghost use Rattle.std.specs.Prelude.{◌≡◌, [], ◌∷◌, ◌++◌, IfOk, OnOk};
 ghost use Rattle.std.specs.Fmt.{decimal};
 ghost use Rattle.mg_certs.specs.Claim.{affirmed, derivation};
 ghost use Rattle.mg_certtext.specs.Pieces.{spaced};

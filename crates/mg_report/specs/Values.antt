@@ -1,5 +1,5 @@
 -- What the values handed in say.
-use Rattle.std.specs.Prelude.{ℕ, Option, List, map, option_map}
+use Rattle.std.specs.Prelude.{ℕ, Option, map, option_map}
 use Rattle.std.specs.Borrow.{Bor}
 use Rattle.mg_derive.specs.Room.{Text}
 use Rattle.mg_certs.specs.Claim.{Verdict, affirmed, derivation, Fact, settled}
@@ -27,7 +27,7 @@ abbrev pub block_of : Question → QuestionBlock
 block_of b = record { name = b.name.now; names = b.names.now; ask = b.ask.now; verdict = found_of b.verdict; searches = map search_of b.searches.now }
 
 abbrev pub fact_of : FactBlock → Fact
-fact_of f = settled f.ask.now (affirmed (derivation f.text.now.symbols))
+fact_of f = settled f.ask.now (affirmed (derivation f.verdict.now.symbols))
 
 abbrev pub fate_of : EntryFate → Fate
 fate_of (Kept records) = kept records

@@ -1,5 +1,5 @@
 //! The lines of what is asked, and of a verdict.
-ghost use Rattle.std.specs.Prelude.{◌≡◌, [], ◌∷◌, ◌++◌, OnOk};
+ghost use Rattle.std.specs.Prelude.{◌≡◌, ◌++◌, OnOk};
 ghost use Rattle.mg_words.specs.Word.{letters_of};
 ghost use Rattle.mg_certs.specs.Claim.{affirmed, derivation};
 ghost use Rattle.mg_report.specs.Report.{verdict_line, group_text, words_text, ask_text};

@@ -17,7 +17,7 @@ pub struct FactBlock<'a> {
     /// What is asked.
     pub ask: &'a Ask,
     /// The derivation that settles it.
-    pub text: &'a Derivation,
+    pub verdict: &'a Derivation,
 }
 
 /// The text of these facts, numbered from 1, with generators named x1, x2 and so on.
@@ -55,7 +55,7 @@ fn push_fact(
     push_number(alloc, out, number as u128)?;
     push_bytes(out, b" settled\n")?;
     push_ask(alloc, out, names.as_slice(), fact.ask)?;
-    push_verdict(alloc, out, names.as_slice(), fact.text)
+    push_verdict(alloc, out, names.as_slice(), fact.verdict)
 }
 
 /// The names x1, x2 and so on of so many generators.

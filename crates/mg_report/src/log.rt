@@ -1,5 +1,5 @@
 //! The text of a log.
-ghost use Rattle.std.specs.Prelude.{◌≡◌, ◌+◌, [], ◌∷◌, ◌++◌, IfOk, OnOk, map};
+ghost use Rattle.std.specs.Prelude.{◌≡◌, ◌+◌, ◌++◌, IfOk, OnOk, map};
 ghost use Rattle.std.specs.List.{flat_map};
 ghost use Rattle.mg_certtext.specs.Pieces.{spaced};
 ghost use Rattle.mg_report.specs.Log.{numbered, fate_pieces, turn_pieces, entry_text, sum_text, log_text};

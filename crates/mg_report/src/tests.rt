@@ -151,7 +151,7 @@ fn a_fact_of_a_log(rt: HostRuntime) -> Result<(), Fail> {
     let text = Derivation::from_symbols(rt.alloc(), &[sign, Symbol::Cut])?;
     let fact = FactBlock {
         ask: &ask,
-        text: &text,
+        verdict: &text,
     };
     let printed = report_facts(rt.alloc(), &[fact])?;
     assert_eq!(rt; printed.as_slice(), FACTS);
@@ -208,10 +208,16 @@ fn a_turn_that_came_too_late(rt: HostRuntime) -> Result<(), Fail> {
 #[test]
 fn refused_steps(rt: HostRuntime) -> Result<(), Fail> {
     let fund = fund_refusal(rt.alloc(), 4_611_686_018_427_387_904)?;
-    assert_eq!(rt; fund.as_slice(), b"fund refused: funded 4611686018427387904\n".as_slice());
+    assert_eq!(rt;
+        fund.as_slice(),
+        b"fund refused: funded 4611686018427387904\n".as_slice()
+    );
     let grant = grant_refusal(rt.alloc(), 5)?;
     assert_eq!(rt; grant.as_slice(), b"grant refused: purse 5\n".as_slice());
     let cancel = cancel_refusal(rt.alloc())?;
-    assert_eq!(rt; cancel.as_slice(), b"cancel refused: no search\n".as_slice());
+    assert_eq!(rt;
+        cancel.as_slice(),
+        b"cancel refused: no search\n".as_slice()
+    );
     Ok(())
 }
