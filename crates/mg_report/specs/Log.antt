@@ -1,11 +1,12 @@
 -- The texts of the facts of a log, and of the log itself. Facts, entries and generators count from 1.
-use Rattle.std.specs.Prelude.{ℕ, ◌+◌, List, [], ◌∷◌, ◌++◌, map, length, codes}
+use Rattle.std.specs.Prelude.{ℕ, ◌+◌, List, [], ◌∷◌, ◌++◌, map, codes}
 use Rattle.std.specs.List.{flat_map, range_with_len}
 use Rattle.std.specs.Fmt.{decimal}
 use Rattle.mg_core.specs.declared.entries.Entry.{Entry}
 use Rattle.mg_words.specs.declared.procedure.Procedure.{Procedure}
 use Rattle.mg_certs.specs.Claim.{Fact, settled, model_of}
-use Rattle.mg_report.specs.Report.{line, ask_text, verdict_text, procedure_piece}
+use Rattle.mg_certtext.specs.Pieces.{line}
+use Rattle.mg_report.specs.Report.{ask_text, verdict_line, procedure_piece}
 
 -- the texts of members that are numbered from a number on, one behind another
 abbrev pub numbered : {X : Type 0} → (ℕ → X → List ℕ) → ℕ → List X → List ℕ
@@ -19,7 +20,7 @@ standard_names generators = map (λ n. codes "x" ++ decimal n) (range_with_len 1
 -- a fact: what is asked, with the verdict; there is no kind of model yet
 abbrev pub fact_text : ℕ → Fact → List ℕ
 fact_text n (settled ask verdict) =
-    line (codes "fact") (decimal n ∷ codes "settled" ∷ []) ++ ask_text (standard_names ask.group.generators) ask ++ verdict_text (standard_names ask.group.generators) verdict
+    line (codes "fact") (decimal n ∷ codes "settled" ∷ []) ++ ask_text (standard_names ask.group.generators) ask ++ verdict_line (standard_names ask.group.generators) verdict
 fact_text n (model_of group model) = elim model [ ]
 
 -- all facts of a log
@@ -53,9 +54,12 @@ abbrev pub fate_pieces : Fate → List (List ℕ)
 fate_pieces (kept records) = codes "kept" ∷ decimal records ∷ []
 fate_pieces (dropped_by fact) = codes "dropped" ∷ codes "by" ∷ decimal fact ∷ []
 
-abbrev pub entry_text : ℕ → EntryLine → List ℕ
-entry_text n entry =
-    line (codes "entry") (decimal n ∷ codes "pass" ∷ decimal entry.pass ∷ codes "search" ∷ decimal entry.search ∷ codes "turn" ∷ decimal entry.turn ∷ codes "units" ∷ decimal entry.units ∷ fate_pieces entry.fate)
+-- which turn it was, and its units
+abbrev pub turn_pieces : EntryLine → List (List ℕ)
+turn_pieces entry = codes "pass" ∷ decimal entry.pass ∷ codes "search" ∷ decimal entry.search ∷ codes "turn" ∷ decimal entry.turn ∷ codes "units" ∷ decimal entry.units ∷ []
+
+unfoldable pub entry_text : ℕ → EntryLine → List ℕ
+entry_text n entry = line (codes "entry") (decimal n ∷ turn_pieces entry ++ fate_pieces entry.fate)
 
 abbrev pub sum_text : SumLine → List ℕ
 sum_text sum = line (codes "sum") (decimal sum.search ∷ sum.name ∷ procedure_piece sum.procedure ∷ codes "units" ∷ decimal sum.units ∷ [])

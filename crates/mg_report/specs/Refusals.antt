@@ -1,7 +1,7 @@
 -- The lines that say that a step was refused.
 use Rattle.std.specs.Prelude.{ℕ, List, [], ◌∷◌, codes}
 use Rattle.std.specs.Fmt.{decimal}
-use Rattle.mg_report.specs.Report.{line}
+use Rattle.mg_certtext.specs.Pieces.{line}
 
 -- with all the units that were funded
 abbrev pub fund_refused : ℕ → List ℕ

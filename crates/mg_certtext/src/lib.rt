@@ -1,0 +1,15 @@
+//! Words and verdicts as text. A text is pieces, joined by single spaces. Each call that pushes appends its
+//! text to the bytes handed in; where memory is wanting, a part of it may be there.
+#![tactic(auto)]
+
+mod pieces;
+mod verdicts;
+mod words;
+
+pub use mg_lists::NoMemory;
+pub use pieces::{push_bytes, push_count, push_number, push_piece};
+pub use verdicts::print;
+pub use words::{push_names, push_words};
+
+#[cfg(test)]
+mod tests;

@@ -1,0 +1,124 @@
+use super::*;
+use mg_derive::{Derivation, Symbol};
+use mg_lists::List;
+use mg_words::{Letter, Word};
+use std::alloc::Global;
+use std::test::*;
+
+const A: Letter = Letter {
+    generator: 1,
+    inverse: false,
+};
+
+const A_BACK: Letter = Letter {
+    generator: 1,
+    inverse: true,
+};
+
+const B: Letter = Letter {
+    generator: 2,
+    inverse: false,
+};
+
+const B_BACK: Letter = Letter {
+    generator: 2,
+    inverse: true,
+};
+
+/// The names `a` and `b`.
+fn a_and_b(alloc: Global) -> Result<List<List<u8>>, NoMemory> {
+    let mut names = List::new(alloc);
+    for byte in b"ab" {
+        let mut name = List::new(alloc);
+        name.push(*byte)?;
+        names.push(name)?;
+    }
+    Ok(names)
+}
+
+/// Whether this is the list of these words.
+fn words_print(alloc: Global, lists: &[&[Letter]], text: &[u8]) -> Result<bool, NoMemory> {
+    let names = a_and_b(alloc)?;
+    let mut words = List::new(alloc);
+    for list in lists {
+        words.push(Word::from_letters(alloc, list)?)?;
+    }
+    let mut out = Vec::new(alloc);
+    push_words(alloc, &mut out, names.as_slice(), words.as_slice())?;
+    Ok(out.as_slice() == text)
+}
+
+/// Whether this is the text of the derivation with these symbols.
+fn derivation_prints(alloc: Global, symbols: &[Symbol], text: &[u8]) -> Result<bool, NoMemory> {
+    let names = a_and_b(alloc)?;
+    let derivation = Derivation::from_symbols(alloc, symbols)?;
+    let out = print(alloc, &derivation, names.as_slice())?;
+    Ok(out.as_slice() == text)
+}
+
+#[test]
+fn words_are_runs(rt: HostRuntime) -> Result<(), Fail> {
+    let relators: [&[Letter]; 3] = [&[A, A], &[B, B, B], &[A, B, A, B]];
+    assert!(rt; words_print(rt.alloc(), &relators, b" a^2 , b^3 , a b a b")?);
+    assert!(rt; words_print(rt.alloc(), &[], b"")?);
+    Ok(())
+}
+
+#[test]
+fn a_run_has_one_sign(rt: HostRuntime) -> Result<(), Fail> {
+    assert!(rt; words_print(rt.alloc(), &[&[A_BACK, A_BACK, B]], b" a^-2 b")?);
+    assert!(rt;
+        words_print(
+            rt.alloc(),
+            &[&[], &[A_BACK], &[A, A_BACK]],
+            b" 1 , a^-1 , a a^-1"
+        )?
+    );
+    Ok(())
+}
+
+#[test]
+fn names_have_commas_between_them(rt: HostRuntime) -> Result<(), Fail> {
+    let names = a_and_b(rt.alloc())?;
+    let mut out = Vec::new(rt.alloc());
+    push_names(&mut out, names.as_slice())?;
+    assert_eq!(rt; out.as_slice(), b" a , b".as_slice());
+    Ok(())
+}
+
+#[test]
+fn a_conjugated_relator(rt: HostRuntime) -> Result<(), Fail> {
+    let sign = Symbol::Relator {
+        place: 1,
+        inverse: false,
+    };
+    let symbols = [Symbol::Letter(B), sign, Symbol::Letter(B_BACK), Symbol::Cut];
+    assert!(rt; derivation_prints(rt.alloc(), &symbols, b"yes derivation b r1 b^-1 ;")?);
+    Ok(())
+}
+
+#[test]
+fn inverse_signs(rt: HostRuntime) -> Result<(), Fail> {
+    let sign = Symbol::Relator {
+        place: 12,
+        inverse: true,
+    };
+    let member = Symbol::Member {
+        place: 1,
+        inverse: true,
+    };
+    assert!(rt; derivation_prints(rt.alloc(), &[sign, member], b"yes derivation r12^-1 [1]^-1")?);
+    assert!(rt; derivation_prints(rt.alloc(), &[], b"yes derivation")?);
+    Ok(())
+}
+
+#[test]
+fn pieces_stand_behind_spaces(rt: HostRuntime) -> Result<(), Fail> {
+    let mut out = Vec::new(rt.alloc());
+    push_bytes(&mut out, b"funded")?;
+    push_number(rt.alloc(), &mut out, 1000)?;
+    push_count(rt.alloc(), &mut out, b"purse", 889)?;
+    push_piece(&mut out, b"|")?;
+    assert_eq!(rt; out.as_slice(), b"funded 1000 purse 889 |".as_slice());
+    Ok(())
+}

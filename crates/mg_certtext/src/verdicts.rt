@@ -1,0 +1,65 @@
+//! The texts of verdicts.
+ghost use Rattle.std.specs.Prelude.{◌≡◌, [], ◌∷◌, ◌++◌, IfOk, OnOk};
+ghost use Rattle.std.specs.Fmt.{decimal};
+ghost use Rattle.mg_certs.specs.Claim.{affirmed, derivation};
+ghost use Rattle.mg_certtext.specs.Pieces.{spaced};
+ghost use Rattle.mg_certtext.specs.Verdicts.{sign, symbol_piece, verdict_text};
+
+use crate::pieces::{push_bytes, push_decimal, push_piece};
+use crate::words::push_run;
+use mg_derive::{Derivation, Symbol};
+use mg_lists::{List, NoMemory};
+use std::alloc::Global;
+
+fn sign_bytes(inverse: bool) -> &'static [u8]
+    ensures { result.now ≡ sign inverse }
+{
+    if inverse { b"^-1" } else { b"" }
+}
+
+/// Pushes a number between two texts as a piece.
+fn push_sign(
+    alloc: Global,
+    out: &mut Vec<u8>,
+    before: &[u8],
+    place: u32,
+    after: &[u8],
+    inverse: bool,
+) -> Result<(), NoMemory>
+    ensures { OnOk result (out.new.items ≡ out.old.items ++ spaced ((before.now ++ decimal place ++ after.now ++ sign inverse) ∷ [])) }
+{
+    push_piece(out, before)?;
+    push_decimal(alloc, out, place as u128)?;
+    push_bytes(out, after)?;
+    push_bytes(out, sign_bytes(inverse))
+}
+
+/// Pushes a symbol of a derivation.
+fn push_symbol(
+    alloc: Global,
+    out: &mut Vec<u8>,
+    names: &[List<u8>],
+    symbol: Symbol,
+) -> Result<(), NoMemory>
+    ensures { OnOk result (out.new.items ≡ out.old.items ++ spaced (symbol_piece names.now symbol ∷ [])) }
+{
+    match symbol {
+        Symbol::Letter(letter) => push_run(alloc, out, names, letter, 1),
+        Symbol::Relator { place, inverse } => push_sign(alloc, out, b"r", place, b"", inverse),
+        Symbol::Member { place, inverse } => push_sign(alloc, out, b"[", place, b"]", inverse),
+        Symbol::Cut => push_piece(out, b";"),
+    }
+}
+
+/// The text of the verdict that a derivation shows, where the generators have these names in order. It has no
+/// end of a line.
+pub fn print(alloc: Global, text: &Derivation, names: &[List<u8>]) -> Result<Vec<u8>, NoMemory>
+    ensures { IfOk result (λ printed. printed.items ≡ verdict_text names.now (affirmed (derivation text.now.symbols))) }
+{
+    let mut out = Vec::new(alloc);
+    push_bytes(&mut out, b"yes derivation")?;
+    for symbol in text.symbols() {
+        push_symbol(alloc, &mut out, names, *symbol)?;
+    }
+    Ok(out)
+}
