@@ -31,7 +31,7 @@ fn go_once<R: Record, S: Searcher<R>>(
         let searching : Searching R R.Key R.Group S = record { key = S.key_of; group = S.group_of; spent = S.spent_of; is_open = S.is_open_of; wants = S.wants_of; turns = S.turns } in
         OnOk result (AllByRecursion (IsFit searching) (map row_at seats.new)) }
     ensures cells { OnOk result (cells_of seats.new ≡ cells_of seats.old) }
-    ensures some { IfOk result (λ some. some ≡ true → turns_ahead seats.new < turns_ahead seats.old) }
+    ensures some { IfOk result (λ some. some ≡ true → turns_ahead (map row_at seats.new) < turns_ahead (map row_at seats.old)) }
     ensures none { IfOk result (λ some. some ≡ false → Finished (seated seats.new book.new)) }
 {
     let mut some = false;

@@ -1,18 +1,18 @@
 //! One turn of one search, and the entry that it puts into a book.
-ghost use Rattle.std.specs.Prelude.{◌≡◌, ℕ, ◌+◌, ◌≤◌, ◌^◌, ◌↔◌, Bool, true, false, List, [], ◌∷◌, ◌++◌, length, if◌then◌else◌, IsSome, IfSome, IfOk, OnOk, option_copied};
+ghost use Rattle.std.specs.Prelude.{◌≡◌, ℕ, ◌+◌, ◌≤◌, ◌^◌, ◌↔◌, Bool, true, false, List, [], ◌∷◌, ◌++◌, length, if◌then◌else◌, Some, IsSome, IfSome, IfOk, OnOk, option_copied};
 ghost use Rattle.std.specs.List.{AllByRecursion};
 ghost use Rattle.mg_core.specs.declared.entries.Entry.{Entry as EntryOf};
 ghost use Rattle.mg_core.specs.Book.{bare};
 ghost use Rattle.mg_core.specs.Log.{Settled};
-ghost use Rattle.mg_turn.specs.Turn.{Recording, Searching, is_stopped, records_of};
+ghost use Rattle.mg_turn.specs.Turn.{Recording, Searching, IsSound, is_stopped, records_of};
 ghost use Rattle.mg_workers.specs.Round.{even, IsFit};
 ghost use Rattle.mg_workers.specs.Run.{Begins, Event, end_after};
 ghost use Rattle.mg_workers.specs.Seats.{row_at, seated};
 
 use crate::held::End;
-use crate::seat::Seat;
-use mg_core::{Book, Committed, Entry, NoMemory, Record, Records};
-use mg_turn::{Searcher, Stop, TurnEnd};
+use crate::seat::{Seat, Turned};
+use mg_core::{Book, Committed, Entry, Facts, NoMemory, Record, Records};
+use mg_turn::{Outcome, Searcher, Stop, TurnEnd};
 use std::alloc::Global;
 
 /// The most units that a turn is given.
@@ -37,6 +37,20 @@ impl<'a, R: Record> Stop<R> for Told<'a, R> {
     }
 }
 
+/// Tells a search nothing.
+#[derive(Drop)]
+struct Silent {}
+
+impl<R: Record> Stop<R> for Silent {
+    ghost use Rattle.std.specs.Prelude.{None};
+
+    ghost known = { λ _. None };
+
+    fn look(&mut self) -> Option<&R> {
+        None
+    }
+}
+
 /// The record that settles the key in the book, if there is one.
 fn verdict<'a, R: Record>(book: &'a Book<R>, key: &R::Key) -> Option<&'a R>
     ensures { IsSome (option_copied result) → Settled R.settled book.now key.now }
@@ -47,13 +61,43 @@ fn verdict<'a, R: Record>(book: &'a Book<R>, key: &R::Key) -> Option<&'a R>
     }
 }
 
-/// Up to which fact a search has read after a turn with this end.
-fn read_after<R>(end: &TurnEnd<R>, before: u64, upto: u64) -> u64
-    ensures { result ≡ (if is_stopped end.now then before else upto) }
+/// A turn of a search, which is told of the book's verdict for its key unless it has looked.
+fn turn<R: Record, S: Searcher<R>>(
+    alloc: Global,
+    book: &Book<R>,
+    search: &mut S,
+    looked: bool,
+    units: u64,
+    facts: Facts<R>,
+) -> Result<Outcome<R>, NoMemory>
+    requires is_open { S.is_open_of search.old ≡ true }
+    requires some_units { 1 ≤ units }
+    requires in_all { S.spent_of search.old + units ≤ 2 ^ 62 }
+    requires few { length facts.records ≤ S.wants_of search.old units }
+    requires of_group { AllByRecursion (λ r. R.modelled r ≡ Some (S.group_of search.old)) facts.records }
+    ensures turns { IfOk result (λ outcome. S.turns search.old units facts outcome search.new) }
+    ensures sound {
+        let recording : Recording R R.Key R.Group = record { valid = R.valid; settles = R.settled; model_of = R.modelled } in
+        let searching : Searching R R.Key R.Group S = record { key = S.key_of; group = S.group_of; spent = S.spent_of; is_open = S.is_open_of; wants = S.wants_of; turns = S.turns } in
+        IfOk result (λ outcome. IsSound recording searching search.old units facts outcome search.new) }
+    ensures once { IfOk result (λ outcome. is_stopped outcome.end ≡ true → looked ≡ false) }
+{
+    if looked {
+        return search.turn(alloc, units, facts, &mut Silent {});
+    }
+    let mut told = Told {
+        verdict: verdict(book, search.key()),
+    };
+    search.turn(alloc, units, facts, &mut told)
+}
+
+/// Whether a turn with this end was stopped.
+fn was_stopped<R>(end: &TurnEnd<R>) -> bool
+    ensures { result ≡ is_stopped end.now }
 {
     match end {
-        TurnEnd::Stopped(_) => before,
-        _ => upto,
+        TurnEnd::Stopped(_) => true,
+        _ => false,
     }
 }
 
@@ -119,22 +163,22 @@ pub(crate) fn take_turn<R: Record, S: Searcher<R>>(
     let wants = seat.held.search.wants(units);
     let facts = book.models(alloc, seat.held.search.group(), seat.held.read, wants)?;
     let upto = facts.upto;
-    let mut stop = Told {
-        verdict: verdict(book, seat.held.search.key()),
+    let outcome = turn(alloc, book, &mut seat.held.search, seat.looked, units, facts)?;
+    let turned = Turned {
+        spent: outcome.spent,
+        upto,
+        stopped: was_stopped(&outcome.end),
+        kept: end_if_kept(&outcome.end),
     };
-    let outcome = seat.held.search.turn(alloc, units, facts, &mut stop)?;
-    let spent = outcome.spent;
-    let read = read_after(&outcome.end, seat.held.read, upto);
-    let kept = end_if_kept(&outcome.end);
     let entry = Entry {
         pass: PASS,
         search: seat.held.number,
         turn: seat.held.turns,
-        units: spent,
+        units: outcome.spent,
         dropped: false,
         records: records_in(alloc, outcome.end),
     };
     let dropped = commit(book, seat.held.search.key(), entry)?;
-    seat.count_turn(spent, read, dropped, kept);
+    seat.count_turn(turned, dropped);
     Ok(())
 }
