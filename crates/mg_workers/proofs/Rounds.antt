@@ -1,8 +1,8 @@
 -- Lemmas on one worker that goes round its searches.
-use Rattle.std.proofs.Common.{◌≡◌, ℕ, zero, suc, ◌+◌, ◌-◌, ◌<◌, ◌≤◌, ◌^◌, ◌↔◌, ◌⊎◌, inl, inr, min, Bool, true, false, cond, not, ◌||◌, ◌&&◌, List, [], ◌∷◌, ◌++◌, Some, length, map, take, set, reverse, refl, ap, sym, ◌∙◌, subst, arith, append-nil, append_assoc}
-use Rattle.std.specs.Prelude.{slice_get, IsTrue, IsSome, IsNone, IfSome}
+use Rattle.std.proofs.Common.{◌≡◌, ℕ, zero, suc, ◌+◌, ◌-◌, ◌<◌, ◌≤◌, ◌^◌, ◌↔◌, ◌⊎◌, inl, inr, min, Bool, true, false, cond, not, ◌||◌, ◌&&◌, List, [], ◌∷◌, ◌++◌, Some, length, get_or, map, take, drop, set, reverse, refl, ap, sym, ◌∙◌, subst, arith, append-nil, append_assoc}
+use Rattle.std.specs.Prelude.{slice_get, Result, Ok, Err, IsTrue, IsSome, IsNone, IfSome, IfOk}
 use Rattle.std.specs.List.{AllByRecursion}
-use Rattle.std.proofs.lemmas.List.{map-append, map-set, reverse-append, take_all}
+use Rattle.std.proofs.lemmas.List.{length-map, map-append, map-set, reverse-append, take_all}
 use Rattle.mg_core.specs.declared.entries.Entry.{Entry}
 use Rattle.mg_core.specs.declared.entries.Facts.{Facts}
 use Rattle.mg_core.specs.Book.{bare}
@@ -34,6 +34,22 @@ get_map f [] i x e = absurd (cc)
 get_map f (w ∷ ws) zero x e = let same : w ≡ x = cc in ap (λ v. Some (f v)) same
 get_map f (w ∷ ws) (suc i) x e = get_map f ws i x e
 
+-- what stands at a place
+pub at_place : {X : Type 0} (xs : List X) (i : ℕ) (d : X) → i < length xs → slice_get xs i ≡ Some (get_or xs i d)
+at_place [] i d within = absurd (omega arith)
+at_place (w ∷ ws) zero d within = refl
+at_place (w ∷ ws) (suc i) d within = at_place ws i d (omega arith)
+
+-- a list that is written over one of its length
+taken_back : {X : Type 0} (new old : List X) (n : ℕ) → length new ≡ n → length old ≡ n → take n (new ++ drop (length new) old) ≡ new
+taken_back [] old n a b = subst (λ m. take m old ≡ []) a refl
+taken_back (x ∷ xs) [] n a b = absurd (omega arith)
+taken_back (x ∷ xs) (y ∷ ys) n a b = subst (λ m. take m ((x ∷ xs) ++ drop (suc (length xs)) (y ∷ ys)) ≡ x ∷ xs) a (ap (λ v. x ∷ v) (taken_back xs ys (length xs) refl (omega arith)))
+
+pub if_ok : {T E : Type 0} (P Q : T → Type 0) → ((x : T) → P x → Q x) → (result : Result T E) → IfOk result P → IfOk result Q
+if_ok P Q imply (Ok x) h = imply x h
+if_ok P Q imply (Err e) h = tt
+
 -- what the changed member has as it had before stays
 map_stays : {X Y : Type 0} (f : X → Y) (xs : List X) (i : ℕ) (x y : X) → slice_get xs i ≡ Some x → f y ≡ f x → map f (set xs i y) ≡ map f xs
 map_stays f [] i x y e same = absurd (cc)
@@ -42,6 +58,12 @@ map_stays f (w ∷ ws) (suc i) x y e same = ap (λ vs. f w ∷ vs) (map_stays f 
 
 pub cells_stay : {S : Type 0} (seats : List (Seat S)) (i : ℕ) (x y : Seat S) → slice_get seats i ≡ Some x → y.held.cell ≡ x.held.cell → cells_of (set seats i y) ≡ cells_of seats
 cells_stay {S} seats i x y e same = map_stays (λ (seat : Seat S). seat.held.cell) seats i x y e same
+
+-- seats that a round has gone over, back in their vector
+pub seats_back : {S : Type 0} (items now new : List (Seat S)) (len : ℕ) → now ≡ items → length now ≡ len → cells_of new ≡ cells_of now → take len (new ++ drop (length new) items) ≡ new
+seats_back {S} items now new len same long cells =
+    let as_long : length new ≡ length now = sym (length-map new (λ (seat : Seat S). seat.held.cell)) ∙ ap length cells ∙ length-map now (λ (seat : Seat S). seat.held.cell) in
+    taken_back new items len (as_long ∙ long) (ap length (sym same) ∙ long)
 
 turns_ahead_is : {S : Type 0} (rows : List (Row S)) → turns_ahead rows ≡ total (λ row. row.allowed + chances row.left row.looked) rows
 turns_ahead_is [] = refl
@@ -230,14 +252,8 @@ module _ {R K G S : Type 0} (recording : Recording R K G) (searching : Searching
     pub fewer : turns_ahead (map row_at seats) + cond some 1 0 ≤ turns_ahead (map row_at before)
     pub over : some ≡ false → AllByRecursion (λ (row : Row S). (row.left ≡ true) ⊎ (row.allowed ≡ 0)) (map row_at (take place seats))
 
-  pub goes_first : (seats : List (Seat S)) (log : List (Entry R)) → AllByRecursion (IsFit searching) (map row_at seats) → Goes seats log seats log false 0
-  goes_first seats log fit = record {
-    runs = λ first begins. ([], refl);
-    fit = fit;
-    cells = refl;
-    fewer = omega arith;
-    over = λ none. tt;
-  }
+  pub fit_at : (seats : List (Seat S)) (place : ℕ) (seat : Seat S) → slice_get seats place ≡ Some seat → AllByRecursion (IsFit searching) (map row_at seats) → IsFit searching (row_at seat)
+  fit_at seats place seat here fit = all_at (IsFit searching) (map row_at seats) place (row_at seat) fit (get_map row_at seats place seat here)
 
   pub goes_by : (before : List (Seat S)) (begin : List (Entry R)) (seats : List (Seat S)) (log : List (Entry R)) (some : Bool) (place : ℕ) (seat : Seat S) → slice_get seats place ≡ Some seat → (seat.left ≡ true) ⊎ (seat.held.allowed ≡ 0) →
       Goes before begin seats log some place → Goes before begin seats log some (suc place)
@@ -266,9 +282,13 @@ module _ {R K G S : Type 0} (recording : Recording R K G) (searching : Searching
         over = λ none. absurd (let bad : true ≡ false = none in cc);
       }
 
-  pub goes_all : (before : List (Seat S)) (begin : List (Entry R)) (seats : List (Seat S)) (log : List (Entry R)) (place : ℕ) → length seats ≤ place → Goes before begin seats log false place → Finished (seated seats log)
-  goes_all before begin seats log place all goes =
-      subst (λ (members : List (Seat S)). AllByRecursion (λ (row : Row S). (row.left ≡ true) ⊎ (row.allowed ≡ 0)) (map row_at members)) (take_all place seats all) (goes.over refl)
+  pub goes_as : (before : List (Seat S)) (begin : List (Entry R)) (seats now : List (Seat S)) (log log_now : List (Entry R)) (some some_now : Bool) (place place_now : ℕ) → now ≡ seats → log_now ≡ log → some_now ≡ some → place_now ≡ place →
+      Goes before begin seats log some place → Goes before begin now log_now some_now place_now
+  goes_as before begin seats now log log_now some some_now place place_now seats_are log_is some_is place_is goes =
+      subst (λ members. Goes before begin members log_now some_now place_now) (sym seats_are)
+      (subst (λ entries. Goes before begin seats entries some_now place_now) (sym log_is)
+      (subst (λ any. Goes before begin seats log any place_now) (sym some_is)
+      (subst (λ at. Goes before begin seats log some at) (sym place_is) goes)))
 
   -- how far one worker has come with its searches
   pub record Went (searches : List (Held S)) (begin : List (Entry R)) (seats : List (Seat S)) (log : List (Entry R)) : Type 0 where
@@ -285,14 +305,17 @@ module _ {R K G S : Type 0} (recording : Recording R K G) (searching : Searching
         cells = ap cells_of seats_are ∙ cells_of_new searches;
       }
 
-  pub went_round : (searches : List (Held S)) (begin : List (Entry R)) (seats : List (Seat S)) (log : List (Entry R)) (after : List (Seat S)) (more : List (Entry R)) → Went searches begin seats log →
-      ((first : List (Entry R)) → Begins first log → Runs recording searching 1 even first (seated seats log) (seated after more)) → AllByRecursion (IsFit searching) (map row_at after) → cells_of after ≡ cells_of seats →
+  pub went_round : (searches : List (Held S)) (begin : List (Entry R)) (seats now : List (Seat S)) (log : List (Entry R)) (after : List (Seat S)) (more : List (Entry R)) → Went searches begin seats log → now ≡ seats →
+      ((first : List (Entry R)) → Begins first log → Runs recording searching 1 even first (seated now log) (seated after more)) → AllByRecursion (IsFit searching) (map row_at after) → cells_of after ≡ cells_of now →
       Went searches begin after more
-  went_round searches begin seats log after more went run fit cells = record {
-    runs = runs_then recording searching 1 even begin (entered searches begin) (seated seats log) (seated after more) went.runs (run begin (runs_begins recording searching 1 even begin (entered searches begin) (seated seats log) went.runs));
-    fit = fit;
-    cells = cells ∙ went.cells;
-  }
+  went_round searches begin seats now log after more went same run fit cells =
+      let there = subst (λ members. Went searches begin members log) (sym same) went in
+      let grown = runs_begins recording searching 1 even begin (entered searches begin) (seated now log) there.runs in
+      record {
+        runs = runs_then recording searching 1 even begin (entered searches begin) (seated now log) (seated after more) there.runs (run begin grown);
+        fit = fit;
+        cells = cells ∙ there.cells;
+      }
 
   pub went_out : (searches : List (Held S)) (begin : List (Entry R)) (seats : List (Seat S)) (log : List (Entry R)) (after : List (Held S)) → Went searches begin seats log → Finished (seated seats log) → after ≡ map (λ (seat : Seat S). seat.held) seats → GoesRound recording searching searches begin after log
   went_out searches begin seats log after went finished after_is = record {

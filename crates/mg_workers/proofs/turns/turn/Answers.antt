@@ -1,9 +1,5 @@
-use Rattle.std.specs.Prelude.{Result, Ok, Err, IfOk}
+use Rattle.mg_workers.proofs.Rounds.{if_ok}
 use Rattle.mg_workers.proofs.turns.turn.Goals as goal
-
-if_ok : {T E : Type 0} (P Q : T → Type 0) → ((x : T) → P x → Q x) → (result : Result T E) → IfOk result P → IfOk result Q
-if_ok P Q imply (Ok x) h = imply x h
-if_ok P Q imply (Err e) h = tt
 
 pub returns-then-looked-clause-sound : goal.returns-then-looked-clause-sound
 returns-then-looked-clause-sound g c =
