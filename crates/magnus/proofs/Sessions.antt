@@ -25,7 +25,8 @@ use Rattle.mg_session.specs.Run as step
 use Rattle.mg_session.specs.Session.{After, Grants, to_a_new_one, Continues, Session, new_search}
 use Rattle.mg_session.specs.Output.{procedure_place, IsVerdict, line_of, lines_of, IsBlock, AreBlocks, TextOf, Texts, Prints}
 use Rattle.mg_report.specs.Report.{SearchLine, QuestionBlock, report_text}
-use Rattle.magnus.specs.Output.{even, alone as alone_params}
+use Rattle.mg_workers.specs.Round.{even}
+use Rattle.magnus.specs.Output.{alone as alone_params}
 use Rattle.magnus.proofs.Turns.{nothing_settled, going, row, alone, found_row, MoreTurns, more_turns, FoundTurns, found_turns}
 
 module _ (group : PlanGroup) (name : List ℕ) (ask : Inquiry) (N M : ℕ) where

@@ -20,7 +20,7 @@ use Rattle.mg_certs.specs.Claim.{Fact, settled, affirmed, derivation}
 use Rattle.mg_certs.specs.Validity.{recording, key_of, group_of}
 use Rattle.mg_plain.specs.Plain.{Plain, PlainTurn}
 use Rattle.mg_search.specs.Search.{Search, plain, searching}
-use Rattle.magnus.specs.Output.{even}
+use Rattle.mg_workers.specs.Round.{even}
 
 -- no models are handed to a search that wants none
 abbrev pub no_models : Facts Fact

@@ -1,13 +1,10 @@
 -- The legal outputs of a script.
-use Rattle.std.specs.Prelude.{◌≡◌, ℕ, min, List}
+use Rattle.std.specs.Prelude.{ℕ, List}
+use Rattle.mg_workers.specs.Round.{even}
 use Rattle.mg_names.specs.Plan.{Plan}
 use Rattle.mg_session.specs.State.{Params}
 use Rattle.mg_session.specs.Output.{Prints}
 use Rattle.magnus.specs.FormPlan.{IsForm}
-
--- the policy that gives each turn what it may spend, and at most 1,024 units
-abbrev pub even : ℕ → ℕ → ℕ → ℕ → Type 0
-even turns spent allowed units = units ≡ min allowed 1024
 
 -- one worker, and that policy
 abbrev pub alone : Params

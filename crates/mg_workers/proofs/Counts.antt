@@ -67,7 +67,7 @@ module _ {S : Type 0} (f : Row S → ℕ) where
   total [] = 0
   total (x ∷ xs) = f x + total xs
 
-  total-set : (xs : List (Row S)) (i : ℕ) (x y : Row S) → slice_get xs i ≡ Some x → total (set xs i y) + f x ≡ total xs + f y
+  pub total-set : (xs : List (Row S)) (i : ℕ) (x y : Row S) → slice_get xs i ≡ Some x → total (set xs i y) + f x ≡ total xs + f y
   total-set [] i x y e = absurd (cc)
   total-set (w ∷ ws) zero x y e = let same : w ≡ x = cc in omega (arith, ap f same)
   total-set (w ∷ ws) (suc i) x y e = omega (arith, total-set ws i x y e)
@@ -115,7 +115,7 @@ others_apart {S} (w ∷ ws) (suc i) x h e =
     ((λ same. other (sym same)), others_apart ws i x h.1 e)
 
 module _ {R K G S : Type 0} (recording : Recording R K G) (searching : Searching R K G S) (workers : ℕ) (IsSize : ℕ → ℕ → ℕ → ℕ → Type 0) (begin : List (Entry R)) (sound : Sound recording searching) where
-  event_uses : (old new : Running R S) (e : Happens recording searching workers IsSize begin old new) →
+  pub event_uses : (old new : Running R S) (e : Happens recording searching workers IsSize begin old new) →
       1 + chances (leaves_at (end_after e.dropped e.outcome.end)) (e.row.looked || (is_stopped e.outcome.end && not e.dropped)) ≤ e.outcome.spent + chances e.row.left e.row.looked
   event_uses old new e =
       let turn = event_sound recording searching workers IsSize begin sound old new e in

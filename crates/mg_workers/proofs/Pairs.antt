@@ -1,5 +1,5 @@
 -- Lemmas on lists that are related place by place, and on one changed place.
-use Rattle.std.proofs.Common.{◌≡◌, ℕ, zero, suc, List, [], ◌∷◌, Some, set, sym, subst}
+use Rattle.std.proofs.Common.{◌≡◌, ℕ, zero, suc, List, [], ◌∷◌, Some, set, ap, sym, subst}
 use Rattle.std.specs.Prelude.{slice_get}
 use Rattle.std.specs.List.{AllByRecursion}
 use Rattle.mg_workers.specs.Rows.{EachPair}
@@ -9,6 +9,19 @@ pub all_at : {X : Type 0} (P : X → Type 0) (xs : List X) (i : ℕ) (x : X) →
 all_at P [] i x h e = absurd (cc)
 all_at P (y ∷ ys) zero x h e = let same : y ≡ x = cc in subst P same h.0
 all_at P (y ∷ ys) (suc i) x h e = all_at P ys i x h.1 e
+
+-- and of a new member there
+pub all_set : {X : Type 0} (P : X → Type 0) (xs : List X) (i : ℕ) (y : X) → AllByRecursion P xs → P y → AllByRecursion P (set xs i y)
+all_set P [] i y h new = h
+all_set P (x ∷ xs) zero y h new = (new, h.1)
+all_set P (x ∷ xs) (suc i) y h new = (h.0, all_set P xs i y h.1 new)
+
+-- the only member of a list
+pub only : {X : Type 0} (xs : List X) (r x y : X) (i : ℕ) → xs ≡ r ∷ [] → slice_get xs i ≡ Some x → (r ≡ x) × (set xs i y ≡ y ∷ [])
+only [] r x y i e h = absurd (cc)
+only (v ∷ vs) r x y zero e h = ((cc), ap (λ ws. y ∷ ws) (cc))
+only (v ∷ []) r x y (suc i) e h = absurd (cc)
+only (v ∷ w ∷ ws) r x y (suc i) e h = absurd (cc)
 
 pub all_along : {X Y : Type 0} (Related : X → Y → Type 0) (P : X → Type 0) (Q : Y → Type 0) → ((x : X) (y : Y) → Related x y → P x → Q y) → (xs : List X) (ys : List Y) → EachPair Related xs ys → AllByRecursion P xs → AllByRecursion Q ys
 all_along Related P Q step [] [] r h = tt

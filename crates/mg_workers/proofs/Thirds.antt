@@ -14,14 +14,8 @@ use Rattle.mg_workers.specs.declared.held.End.{End}
 use Rattle.mg_workers.specs.declared.held.End.TheVariants as ends
 use Rattle.mg_workers.specs.Run.{Row, Running, entry_of, row_after, end_after, leaves_at, Finished}
 use Rattle.mg_workers.specs.Examples.{third_with}
+use Rattle.mg_workers.proofs.Pairs.{only}
 use Rattle.mg_workers.proofs.Events.{Happens, LeadsBy, Run}
-
--- the only member of a list
-only : {X : Type 0} (xs : List X) (r x y : X) (i : ℕ) → xs ≡ r ∷ [] → slice_get xs i ≡ Some x → (r ≡ x) × (set xs i y ≡ y ∷ [])
-only [] r x y i e h = absurd (cc)
-only (v ∷ vs) r x y zero e h = ((cc), ap (λ ws. y ∷ ws) (cc))
-only (v ∷ []) r x y (suc i) e h = absurd (cc)
-only (v ∷ w ∷ ws) r x y (suc i) e h = absurd (cc)
 
 not_true : (b : Bool) → (b ≡ true → ⊥) → b ≡ false
 not_true true h = absurd (h refl)

@@ -1,3 +1,5 @@
 pub mod Examples
+pub mod Round
 pub mod Rows
 pub mod Run
+pub mod Seats

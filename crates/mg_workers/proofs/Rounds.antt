@@ -1,0 +1,328 @@
+-- Lemmas on one worker that goes round its searches.
+use Rattle.std.proofs.Common.{◌≡◌, ℕ, zero, suc, ◌+◌, ◌-◌, ◌<◌, ◌≤◌, ◌^◌, ◌↔◌, ◌⊎◌, inl, inr, min, Bool, true, false, cond, not, ◌||◌, ◌&&◌, List, [], ◌∷◌, ◌++◌, Some, length, get_or, map, take, drop, set, reverse, refl, ap, sym, ◌∙◌, subst, arith, append-nil, append_assoc}
+use Rattle.std.specs.Prelude.{slice_get, Result, Ok, Err, IsTrue, IsSome, IsNone, IfSome, IfOk}
+use Rattle.std.specs.List.{AllByRecursion}
+use Rattle.std.proofs.lemmas.List.{length-map, map-append, map-set, reverse-append, take_all}
+use Rattle.mg_core.specs.declared.entries.Entry.{Entry}
+use Rattle.mg_core.specs.declared.entries.Facts.{Facts}
+use Rattle.mg_core.specs.Book.{bare}
+use Rattle.mg_turn.specs.declared.outcome.Outcome.{Outcome}
+use Rattle.mg_turn.specs.declared.outcome.TurnEnd.{TurnEnd}
+use Rattle.mg_turn.specs.declared.outcome.TurnEnd.TheVariants.{More, Found, Closed, Idle, Stopped, Full}
+use Rattle.mg_turn.specs.Turn.{Recording, Searching, Sound, IsSound, EndFits, records_of, goes_on, is_stopped}
+use Rattle.mg_workers.specs.declared.held.Held.{Held}
+use Rattle.mg_workers.specs.declared.seat.Seat.{Seat}
+use Rattle.mg_workers.specs.declared.held.End.{End}
+use Rattle.mg_workers.specs.declared.held.End.TheVariants as ends
+use Rattle.mg_workers.specs.Run.{Row, Running, Begins, Runs, Finished, entry_of, row_after, end_after, leaves_at}
+use Rattle.mg_workers.specs.Rows.{EachPair}
+use Rattle.mg_workers.specs.Round.{even, row_of, entered, IsFit, GoesRound}
+use Rattle.mg_workers.specs.Seats.{seat_of, row_at, seated, cells_of, turns_ahead}
+use Rattle.mg_workers.proofs.Pairs.{all_at, all_set, only}
+use Rattle.mg_workers.proofs.Counts.{event_uses, total, total-set, chances}
+use Rattle.mg_workers.proofs.Events.{Happens, event_sound, runs_then, runs_push, runs_begins}
+use Rattle.mg_workers.proofs.Legality.{end_settles}
+
+pub begins_itself : {X : Type 0} (xs : List X) → Begins xs xs
+begins_itself xs = ([], sym (append-nil xs))
+
+pub begins_then : {X : Type 0} (xs ys zs : List X) → Begins xs ys → Begins ys zs → Begins xs zs
+begins_then xs ys zs a b = (a.0 ++ b.0, b.1 ∙ ap (λ vs. vs ++ b.0) a.1 ∙ append_assoc xs a.0 b.0)
+
+get_map : {X Y : Type 0} (f : X → Y) (xs : List X) (i : ℕ) (x : X) → slice_get xs i ≡ Some x → slice_get (map f xs) i ≡ Some (f x)
+get_map f [] i x e = absurd (cc)
+get_map f (w ∷ ws) zero x e = let same : w ≡ x = cc in ap (λ v. Some (f v)) same
+get_map f (w ∷ ws) (suc i) x e = get_map f ws i x e
+
+-- what stands at a place
+pub at_place : {X : Type 0} (xs : List X) (i : ℕ) (d : X) → i < length xs → slice_get xs i ≡ Some (get_or xs i d)
+at_place [] i d within = absurd (omega arith)
+at_place (w ∷ ws) zero d within = refl
+at_place (w ∷ ws) (suc i) d within = at_place ws i d (omega arith)
+
+-- a list that is written over one of its length
+taken_back : {X : Type 0} (new old : List X) (n : ℕ) → length new ≡ n → length old ≡ n → take n (new ++ drop (length new) old) ≡ new
+taken_back [] old n a b = subst (λ m. take m old ≡ []) a refl
+taken_back (x ∷ xs) [] n a b = absurd (omega arith)
+taken_back (x ∷ xs) (y ∷ ys) n a b = subst (λ m. take m ((x ∷ xs) ++ drop (suc (length xs)) (y ∷ ys)) ≡ x ∷ xs) a (ap (λ v. x ∷ v) (taken_back xs ys (length xs) refl (omega arith)))
+
+pub if_ok : {T E : Type 0} (P Q : T → Type 0) → ((x : T) → P x → Q x) → (result : Result T E) → IfOk result P → IfOk result Q
+if_ok P Q imply (Ok x) h = imply x h
+if_ok P Q imply (Err e) h = tt
+
+-- what the changed member has as it had before stays
+map_stays : {X Y : Type 0} (f : X → Y) (xs : List X) (i : ℕ) (x y : X) → slice_get xs i ≡ Some x → f y ≡ f x → map f (set xs i y) ≡ map f xs
+map_stays f [] i x y e same = absurd (cc)
+map_stays f (w ∷ ws) zero x y e same = let here : w ≡ x = cc in ap (λ v. v ∷ map f ws) (same ∙ ap f (sym here))
+map_stays f (w ∷ ws) (suc i) x y e same = ap (λ vs. f w ∷ vs) (map_stays f ws i x y e same)
+
+pub cells_stay : {S : Type 0} (seats : List (Seat S)) (i : ℕ) (x y : Seat S) → slice_get seats i ≡ Some x → y.held.cell ≡ x.held.cell → cells_of (set seats i y) ≡ cells_of seats
+cells_stay {S} seats i x y e same = map_stays (λ (seat : Seat S). seat.held.cell) seats i x y e same
+
+-- seats that a round has gone over, back in their vector
+pub seats_back : {S : Type 0} (items now new : List (Seat S)) (len : ℕ) → now ≡ items → length now ≡ len → cells_of new ≡ cells_of now → take len (new ++ drop (length new) items) ≡ new
+seats_back {S} items now new len same long cells =
+    let as_long : length new ≡ length now = sym (length-map new (λ (seat : Seat S). seat.held.cell)) ∙ ap length cells ∙ length-map now (λ (seat : Seat S). seat.held.cell) in
+    taken_back new items len (as_long ∙ long) (ap length (sym same) ∙ long)
+
+turns_ahead_is : {S : Type 0} (rows : List (Row S)) → turns_ahead rows ≡ total (λ row. row.allowed + chances row.left row.looked) rows
+turns_ahead_is [] = refl
+turns_ahead_is (row ∷ rows) = omega (arith, turns_ahead_is rows)
+
+-- a search that doesn't leave at its turn goes on
+still_open : {R : Type 0} (dropped : Bool) (end : TurnEnd R) → leaves_at (end_after dropped end) ≡ false → goes_on end ≡ true
+still_open true end stays = absurd (cc)
+still_open false More stays = refl
+still_open false (Found records) stays = absurd (cc)
+still_open false (Closed records) stays = absurd (cc)
+still_open false Idle stays = absurd (cc)
+still_open false (Stopped seen) stays = refl
+still_open false (Full what count) stays = absurd (cc)
+
+cells_of_held : {S : Type 0} (seats : List (Seat S)) → map (λ (search : Held S). search.cell) (map (λ (seat : Seat S). seat.held) seats) ≡ cells_of seats
+cells_of_held [] = refl
+cells_of_held (seat ∷ seats) = ap (λ cells. seat.held.cell ∷ cells) (cells_of_held seats)
+
+cells_of_new : {S : Type 0} (searches : List (Held S)) → cells_of (map seat_of searches) ≡ map (λ (search : Held S). search.cell) searches
+cells_of_new [] = refl
+cells_of_new (search ∷ searches) = ap (λ cells. search.cell ∷ cells) (cells_of_new searches)
+
+-- a search that doesn't go on is over
+pub over_unless : (left goes : Bool) (allowed : ℕ) → IsTrue goes ↔ ((left ≡ false) × (1 ≤ allowed)) → goes ≡ false → (left ≡ true) ⊎ (allowed ≡ 0)
+over_unless true goes allowed h stays = inl refl
+over_unless false goes zero h stays = inr refl
+over_unless false goes (suc n) h stays = let on : IsTrue goes = h.1 (refl, omega arith) in absurd (cc)
+
+-- one more of the first members
+all_more : {X Y : Type 0} (f : X → Y) (P : Y → Type 0) (xs : List X) (i : ℕ) (x : X) → slice_get xs i ≡ Some x → P (f x) → AllByRecursion P (map f (take i xs)) → AllByRecursion P (map f (take (suc i) xs))
+all_more f P [] i x e here h = absurd (cc)
+all_more f P (w ∷ ws) zero x e here h = let same : w ≡ x = cc in (subst (λ v. P (f v)) (sym same) here, tt)
+all_more f P (w ∷ ws) (suc i) x e here h = (h.0, all_more f P ws i x e here h.1)
+
+-- a member that is popped from one list and pushed on another
+pub moved_over : {X Y : Type 0} (f : X → Y) (all : List Y) (xs : List X) (x : X) (ys : List Y) → all ≡ map f (xs ++ x ∷ []) ++ reverse ys → all ≡ map f xs ++ reverse (ys ++ f x ∷ [])
+moved_over f all xs x ys e =
+    e ∙ ap (λ v. v ++ reverse ys) (map-append f xs (x ∷ [])) ∙ append_assoc (map f xs) (f x ∷ []) (reverse ys) ∙ ap (λ v. map f xs ++ v) (sym (reverse-append ys (f x ∷ [])))
+
+cond_of_end : {R : Type 0} (dropped : Bool) (end : TurnEnd R) → cond dropped ends.Stopped (end_after false end) ≡ end_after dropped end
+cond_of_end true end = refl
+cond_of_end false end = refl
+
+-- an entry that was committed is that of the turn
+pub entry_is : {R S : Type 0} (pass : ℕ) (row : Row S) (outcome : Outcome R) (dropped : Bool) (entry : Entry R) →
+    entry ≡ entry_of pass row outcome false → cond dropped (bare entry) entry ≡ entry_of pass row outcome dropped
+entry_is pass row outcome true entry same = ap bare same
+entry_is pass row outcome false entry same = same
+
+-- what is counted of a turn gives the row after it
+module _ {R S : Type 0} (seat after : Seat S) (search : S) (facts : Facts R) (outcome : Outcome R) (dropped stopped : Bool) (kept : End) where
+  abbrev pub counted : Bool → End → Held S
+  counted stopped end = record {
+    search = search;
+    number = seat.held.number;
+    cell = seat.held.cell;
+    held = seat.held.held - outcome.spent;
+    spent = seat.held.spent + outcome.spent;
+    allowed = seat.held.allowed - outcome.spent;
+    turns = min (seat.held.turns + 1) (2 ^ 64 - 1);
+    read = cond stopped seat.held.read facts.upto;
+    end = end;
+  }
+
+  pub row_is : stopped ≡ is_stopped outcome.end → kept ≡ end_after false outcome.end →
+      after.held ≡ counted stopped (cond dropped ends.Stopped kept) → after.left ≡ leaves_at (cond dropped ends.Stopped kept) → after.looked ≡ (seat.looked || (stopped && not dropped)) →
+      row_at after ≡ row_after (row_at seat) facts outcome dropped search
+  row_is stops keeps held left looked =
+      let end : cond dropped ends.Stopped kept ≡ end_after dropped outcome.end = ap (λ k. cond dropped ends.Stopped k) keeps ∙ cond_of_end dropped outcome.end in
+      ap (λ h. row_of after.left after.looked h) held
+      ∙ ap (λ l. row_of l after.looked (counted stopped (cond dropped ends.Stopped kept))) left
+      ∙ ap (λ l. row_of (leaves_at (cond dropped ends.Stopped kept)) l (counted stopped (cond dropped ends.Stopped kept))) looked
+      ∙ ap (λ b. row_of (leaves_at (cond dropped ends.Stopped kept)) (seat.looked || (b && not dropped)) (counted b (cond dropped ends.Stopped kept))) stops
+      ∙ ap (λ e. row_of (leaves_at e) (seat.looked || (is_stopped outcome.end && not dropped)) (counted (is_stopped outcome.end) e)) end
+
+-- the searches of seats are those of their rows
+rows_are_held : {S : Type 0} (seats : List (Seat S)) → EachPair (λ (row : Row S) search. row ≡ row_of row.left row.looked search) (map row_at seats) (map (λ seat. seat.held) seats)
+rows_are_held [] = tt
+rows_are_held (seat ∷ seats) = (refl, rows_are_held seats)
+
+-- searches that come into a run stand so in its rows
+rows_of_new : {S : Type 0} (searches : List (Held S)) → map row_at (map seat_of searches) ≡ map (row_of false false) searches
+rows_of_new [] = refl
+rows_of_new (search ∷ searches) = ap (λ rows. row_of false false search ∷ rows) (rows_of_new searches)
+
+module _ {R K G S : Type 0} (recording : Recording R K G) (searching : Searching R K G S) where
+  few_records : (search : S) (units : ℕ) (facts : Facts R) (spent : ℕ) (end : TurnEnd R) → EndFits recording searching search units facts spent end → length (records_of end) ≤ 2
+  few_records search units facts spent More fits = omega arith
+  few_records search units facts spent (Found []) fits = absurd fits
+  few_records search units facts spent (Found (first ∷ rest)) fits = omega (arith, fits.1)
+  few_records search units facts spent (Closed records) fits = omega (arith, fits.0)
+  few_records search units facts spent Idle fits = omega arith
+  few_records search units facts spent (Stopped seen) fits = omega arith
+  few_records search units facts spent (Full what count) fits = omega arith
+
+  module _ (search : S) (units : ℕ) (facts : Facts R) (outcome : Outcome R) (after : S) (turn : IsSound recording searching search units facts outcome after) (records : List R) (records_are : records ≡ records_of outcome.end) where
+    -- a sound turn brings at most two records
+    pub brings_few : length records ≤ 2
+    brings_few = subst (λ rs. length rs ≤ 2) (sym records_are) (few_records search units facts outcome.spent outcome.end turn.end)
+
+    -- and those that settle something settle its key
+    pub brings_settling : ((r : R) → recording.valid r → IsSome (recording.model_of r) → IsNone (recording.settles r)) → (key : K) → key ≡ searching.key search → AllByRecursion (λ r. IfSome (recording.settles r) (λ k. k ≡ key)) records
+    brings_settling exclusive key same =
+        subst (λ k. AllByRecursion (λ r. IfSome (recording.settles r) (λ q. q ≡ k)) records) (sym same)
+        (subst (AllByRecursion (λ r. IfSome (recording.settles r) (λ q. q ≡ searching.key search))) (sym records_are)
+        (end_settles recording searching exclusive search units facts outcome.spent outcome.end turn.valid turn.end))
+
+  module _ (workers : ℕ) (IsSize : ℕ → ℕ → ℕ → ℕ → Type 0) (begin : List (Entry R)) where
+    -- an event of one search is one of those among which it stands
+    event_at : (rows : List (Row S)) (i : ℕ) (x y : Row S) (log more : List (Entry R)) → slice_get rows i ≡ Some x →
+        Happens recording searching workers IsSize begin (record { rows = x ∷ []; log = log }) (record { rows = y ∷ []; log = more }) →
+        Happens recording searching workers IsSize begin (record { rows = rows; log = log }) (record { rows = set rows i y; log = more })
+    event_at rows i x y log more here e =
+        let after = row_after e.row e.facts e.outcome e.dropped e.search in
+        let alone = only (x ∷ []) x e.row after e.place refl e.of_row in
+        let changed : y ∷ [] ≡ after ∷ [] = e.rows ∙ alone.1 in
+        let same : y ≡ after = cc in
+        record {
+          place = i;
+          row = e.row;
+          of_row = here ∙ ap Some alone.0;
+          stays = e.stays;
+          allowed = e.allowed;
+          openness = e.openness;
+          pass = e.pass;
+          pass_from = e.pass_from;
+          pass_upto = e.pass_upto;
+          units = e.units;
+          is_size = e.is_size;
+          units_from = e.units_from;
+          units_upto = e.units_upto;
+          seen = e.seen;
+          seen_all_before = e.seen_all_before;
+          seen_is_there = e.seen_is_there;
+          facts = e.facts;
+          handed = e.handed;
+          outcome = e.outcome;
+          search = e.search;
+          turn = e.turn;
+          dropped = e.dropped;
+          is_dropped = e.is_dropped;
+          log = e.log;
+          rows = ap (λ row. set rows i row) same;
+          once = e.once;
+        }
+
+    pub event_of_seat : (seats : List (Seat S)) (i : ℕ) (x y : Seat S) (log more : List (Entry R)) → slice_get seats i ≡ Some x →
+        Happens recording searching workers IsSize begin (seated (x ∷ []) log) (seated (y ∷ []) more) →
+        Happens recording searching workers IsSize begin (seated seats log) (seated (set seats i y) more)
+    event_of_seat seats i x y log more here e =
+        subst (λ (rows : List (Row S)). Happens recording searching workers IsSize begin (seated seats log) (record { rows = rows; log = more })) (sym (map-set row_at seats i y))
+        (event_at (map row_at seats) i (row_at x) (row_at y) log more (get_map row_at seats i x here) e)
+
+    module _ (sound : Sound recording searching) where
+      -- rows stay fit
+      pub event_fits : (old new : Running R S) → AllByRecursion (IsFit searching) old.rows → Happens recording searching workers IsSize begin old new → AllByRecursion (IsFit searching) new.rows
+      event_fits old new fit e =
+          let turn = event_sound recording searching workers IsSize begin sound old new e in
+          let row_fit = all_at (IsFit searching) old.rows e.place e.row fit e.of_row in
+          let after = row_after e.row e.facts e.outcome e.dropped e.search in
+          subst (AllByRecursion (IsFit searching)) (sym e.rows)
+          (all_set (IsFit searching) old.rows e.place after fit (record {
+            within = omega (arith, row_fit.within, turn.within);
+            counted = turn.spent ∙ ap (λ n. n + e.outcome.spent) row_fit.counted;
+            in_all = omega (arith, row_fit.in_all, row_fit.within, turn.within, e.units_upto);
+            openness = λ stays some. turn.openness ∙ still_open e.dropped e.outcome.end stays;
+          }))
+
+      -- and fewer turns are ahead
+      pub event_falls : (old new : Running R S) → Happens recording searching workers IsSize begin old new → turns_ahead new.rows < turns_ahead old.rows
+      event_falls old new e =
+          let turn = event_sound recording searching workers IsSize begin sound old new e in
+          let used = event_uses recording searching workers IsSize begin sound old new e in
+          let after = row_after e.row e.facts e.outcome e.dropped e.search in
+          let changed = ap turns_ahead e.rows in
+          let sum = total-set (λ row. row.allowed + chances row.left row.looked) old.rows e.place e.row after e.of_row in
+          omega (arith, used, turn.within, e.units_upto, changed, sum, turns_ahead_is old.rows, turns_ahead_is (set old.rows e.place after))
+
+-- how far one worker has come with a round of turns: up to which place, and whether some search took one
+module _ {R K G S : Type 0} (recording : Recording R K G) (searching : Searching R K G S) where
+  pub record Goes (before : List (Seat S)) (begin : List (Entry R)) (seats : List (Seat S)) (log : List (Entry R)) (some : Bool) (place : ℕ) : Type 0 where
+    pub runs : (first : List (Entry R)) → Begins first begin → Runs recording searching 1 even first (seated before begin) (seated seats log)
+    pub fit : AllByRecursion (IsFit searching) (map row_at seats)
+    pub cells : cells_of seats ≡ cells_of before
+    pub fewer : turns_ahead (map row_at seats) + cond some 1 0 ≤ turns_ahead (map row_at before)
+    pub over : some ≡ false → AllByRecursion (λ (row : Row S). (row.left ≡ true) ⊎ (row.allowed ≡ 0)) (map row_at (take place seats))
+
+  pub fit_at : (seats : List (Seat S)) (place : ℕ) (seat : Seat S) → slice_get seats place ≡ Some seat → AllByRecursion (IsFit searching) (map row_at seats) → IsFit searching (row_at seat)
+  fit_at seats place seat here fit = all_at (IsFit searching) (map row_at seats) place (row_at seat) fit (get_map row_at seats place seat here)
+
+  pub goes_by : (before : List (Seat S)) (begin : List (Entry R)) (seats : List (Seat S)) (log : List (Entry R)) (some : Bool) (place : ℕ) (seat : Seat S) → slice_get seats place ≡ Some seat → (seat.left ≡ true) ⊎ (seat.held.allowed ≡ 0) →
+      Goes before begin seats log some place → Goes before begin seats log some (suc place)
+  goes_by before begin seats log some place seat here over goes = record {
+    runs = goes.runs;
+    fit = goes.fit;
+    cells = goes.cells;
+    fewer = goes.fewer;
+    over = λ none. all_more row_at (λ (row : Row S). (row.left ≡ true) ⊎ (row.allowed ≡ 0)) seats place seat here over (goes.over none);
+  }
+
+  pub goes_on_by : Sound recording searching → (before : List (Seat S)) (begin : List (Entry R)) (seats : List (Seat S)) (log more : List (Entry R)) (some : Bool) (place : ℕ) (seat after : Seat S) → slice_get seats place ≡ Some seat →
+      ((first : List (Entry R)) → Begins first log → Happens recording searching 1 even first (seated (seat ∷ []) log) (seated (after ∷ []) more)) → after.held.cell ≡ seat.held.cell →
+      Goes before begin seats log some place → Goes before begin (set seats place after) more true (suc place)
+  goes_on_by sound before begin seats log more some place seat after here turn cell goes =
+      let event = λ (first : List (Entry R)) (begins : Begins first log). event_of_seat recording searching 1 even first seats place seat after log more here (turn first begins) in
+      let falls = event_falls recording searching 1 even log sound (seated seats log) (seated (set seats place after) more) (event log (begins_itself log)) in
+      record {
+        runs = λ first begins.
+            let run = goes.runs first begins in
+            let grown = runs_begins recording searching 1 even first (seated before begin) (seated seats log) run in
+            runs_push recording searching 1 even first (seated before begin) (seated seats log) (seated (set seats place after) more) run (event first (begins_then first begin log begins grown));
+        fit = event_fits recording searching 1 even log sound (seated seats log) (seated (set seats place after) more) goes.fit (event log (begins_itself log));
+        cells = cells_stay seats place seat after here cell ∙ goes.cells;
+        fewer = omega (arith, falls, goes.fewer);
+        over = λ none. absurd (let bad : true ≡ false = none in cc);
+      }
+
+  pub goes_as : (before : List (Seat S)) (begin : List (Entry R)) (seats now : List (Seat S)) (log log_now : List (Entry R)) (some some_now : Bool) (place place_now : ℕ) → now ≡ seats → log_now ≡ log → some_now ≡ some → place_now ≡ place →
+      Goes before begin seats log some place → Goes before begin now log_now some_now place_now
+  goes_as before begin seats now log log_now some some_now place place_now seats_are log_is some_is place_is goes =
+      subst (λ members. Goes before begin members log_now some_now place_now) (sym seats_are)
+      (subst (λ entries. Goes before begin seats entries some_now place_now) (sym log_is)
+      (subst (λ any. Goes before begin seats log any place_now) (sym some_is)
+      (subst (λ at. Goes before begin seats log some at) (sym place_is) goes)))
+
+  -- how far one worker has come with its searches
+  pub record Went (searches : List (Held S)) (begin : List (Entry R)) (seats : List (Seat S)) (log : List (Entry R)) : Type 0 where
+    pub runs : Runs recording searching 1 even begin (entered searches begin) (seated seats log)
+    pub fit : AllByRecursion (IsFit searching) (map row_at seats)
+    pub cells : cells_of seats ≡ map (λ (search : Held S). search.cell) searches
+
+  pub went_in : (searches : List (Held S)) (log : List (Entry R)) (seats : List (Seat S)) → AllByRecursion (IsFit searching) (map (row_of false false) searches) → seats ≡ map seat_of searches → Went searches log seats log
+  went_in searches log seats fit seats_are =
+      let rows : map row_at seats ≡ map (row_of false false) searches = ap (map row_at) seats_are ∙ rows_of_new searches in
+      record {
+        runs = ([], ap (λ (rows : List (Row S)). record { rows = rows; log = log }) (sym rows));
+        fit = subst (AllByRecursion (IsFit searching)) (sym rows) fit;
+        cells = ap cells_of seats_are ∙ cells_of_new searches;
+      }
+
+  pub went_round : (searches : List (Held S)) (begin : List (Entry R)) (seats now : List (Seat S)) (log : List (Entry R)) (after : List (Seat S)) (more : List (Entry R)) → Went searches begin seats log → now ≡ seats →
+      ((first : List (Entry R)) → Begins first log → Runs recording searching 1 even first (seated now log) (seated after more)) → AllByRecursion (IsFit searching) (map row_at after) → cells_of after ≡ cells_of now →
+      Went searches begin after more
+  went_round searches begin seats now log after more went same run fit cells =
+      let there = subst (λ members. Went searches begin members log) (sym same) went in
+      let grown = runs_begins recording searching 1 even begin (entered searches begin) (seated now log) there.runs in
+      record {
+        runs = runs_then recording searching 1 even begin (entered searches begin) (seated now log) (seated after more) there.runs (run begin grown);
+        fit = fit;
+        cells = cells ∙ there.cells;
+      }
+
+  pub went_out : (searches : List (Held S)) (begin : List (Entry R)) (seats : List (Seat S)) (log : List (Entry R)) (after : List (Held S)) → Went searches begin seats log → Finished (seated seats log) → after ≡ map (λ (seat : Seat S). seat.held) seats → GoesRound recording searching searches begin after log
+  went_out searches begin seats log after went finished after_is = record {
+    last = seated seats log;
+    runs = went.runs;
+    finished = finished;
+    log_is = refl;
+    rows_are = subst (EachPair (λ (row : Row S) search. row ≡ row_of row.left row.looked search) (map row_at seats)) (sym after_is) (rows_are_held seats);
+    cells = ap (map (λ (search : Held S). search.cell)) after_is ∙ cells_of_held seats ∙ went.cells;
+  }

@@ -1,0 +1,62 @@
+//! One worker that goes round its searches.
+ghost use Rattle.std.specs.Prelude.{◌≡◌, ℕ, ◌+◌, ◌<◌, true, false, List, map, IfOk, OnOk};
+ghost use Rattle.std.specs.List.{AllByRecursion};
+ghost use Rattle.mg_core.specs.declared.entries.Entry.{Entry as EntryOf};
+ghost use Rattle.mg_turn.specs.Turn.{Recording, Searching};
+ghost use Rattle.mg_workers.specs.Round.{even, row_of, IsFit, GoesRound};
+ghost use Rattle.mg_workers.specs.Run.{Begins, Runs, Finished};
+ghost use Rattle.mg_workers.specs.Seats.{row_at, seated, cells_of, turns_ahead};
+
+use crate::held::HeldList;
+use crate::seat::{Seat, searches_of, seats_of};
+use crate::turns::take_turn;
+use mg_core::{Book, NoMemory, Record};
+use mg_turn::Searcher;
+use std::alloc::Global;
+
+/// Gives each search that goes on one turn, and tells whether there was any.
+fn go_once<R: Record, S: Searcher<R>>(
+    alloc: Global,
+    book: &mut Book<R>,
+    seats: &mut [Seat<S>],
+) -> Result<bool, NoMemory>
+    requires { let searching : Searching R R.Key R.Group S = record { key = S.key_of; group = S.group_of; spent = S.spent_of; is_open = S.is_open_of; wants = S.wants_of; turns = S.turns } in
+        AllByRecursion (IsFit searching) (map row_at seats.old) }
+    ensures runs { let recording : Recording R R.Key R.Group = record { valid = R.valid; settles = R.settled; model_of = R.modelled } in
+        let searching : Searching R R.Key R.Group S = record { key = S.key_of; group = S.group_of; spent = S.spent_of; is_open = S.is_open_of; wants = S.wants_of; turns = S.turns } in
+        OnOk result ((begin : List (EntryOf R)) → Begins begin book.old → Runs recording searching 1 even begin (seated seats.old book.old) (seated seats.new book.new)) }
+    ensures fit { let searching : Searching R R.Key R.Group S = record { key = S.key_of; group = S.group_of; spent = S.spent_of; is_open = S.is_open_of; wants = S.wants_of; turns = S.turns } in
+        OnOk result (AllByRecursion (IsFit searching) (map row_at seats.new)) }
+    ensures cells { OnOk result (cells_of seats.new ≡ cells_of seats.old) }
+    ensures some { IfOk result (λ some. some ≡ true → turns_ahead (map row_at seats.new) < turns_ahead (map row_at seats.old)) }
+    ensures none { IfOk result (λ some. some ≡ false → Finished (seated seats.new book.new)) }
+{
+    let mut some = false;
+    for seat in seats.iter_mut() {
+        if seat.goes_on() {
+            take_turn(alloc, book, seat)?;
+            some = true;
+        }
+    }
+    Ok(some)
+}
+
+/// Goes round the searches in their order, as the one worker, until each has left or has no allowed units. Each is
+/// given a turn of what it may spend, of at most 1,024 units, and the models that it wants above what it has read; the
+/// entry of the turn is committed directly after it. A search that turns out to be settled has its turn dropped and
+/// ends `Stopped`. Where there is no memory the searches are gone.
+pub fn go_round<R: Record, S: Searcher<R> + Drop>(
+    alloc: Global,
+    book: &mut Book<R>,
+    searches: HeldList<S>,
+) -> Result<HeldList<S>, NoMemory>
+    requires { let searching : Searching R R.Key R.Group S = record { key = S.key_of; group = S.group_of; spent = S.spent_of; is_open = S.is_open_of; wants = S.wants_of; turns = S.turns } in
+        AllByRecursion (IsFit searching) (map (row_of false false) searches) }
+    ensures { let recording : Recording R R.Key R.Group = record { valid = R.valid; settles = R.settled; model_of = R.modelled } in
+        let searching : Searching R R.Key R.Group S = record { key = S.key_of; group = S.group_of; spent = S.spent_of; is_open = S.is_open_of; wants = S.wants_of; turns = S.turns } in
+        IfOk result (λ after. GoesRound recording searching searches book.old after book.new) }
+{
+    let mut seats = seats_of(alloc, searches)?;
+    while go_once(alloc, book, &mut seats)? {}
+    searches_of(alloc, seats)
+}

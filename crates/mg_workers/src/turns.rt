@@ -1,0 +1,188 @@
+//! One turn of one search, and the entry that it puts into a book.
+ghost use Rattle.std.specs.Prelude.{◌≡◌, ℕ, ◌+◌, ◌≤◌, ◌^◌, ◌↔◌, Bool, true, false, List, [], ◌∷◌, ◌++◌, length, if◌then◌else◌, Some, IsSome, IfSome, IfOk, OnOk, option_copied};
+ghost use Rattle.std.specs.List.{AllByRecursion};
+ghost use Rattle.mg_core.specs.declared.entries.Entry.{Entry as EntryOf};
+ghost use Rattle.mg_core.specs.Book.{bare};
+ghost use Rattle.mg_core.specs.Log.{Settled};
+ghost use Rattle.mg_turn.specs.Turn.{Recording, Searching, IsSound, is_stopped, records_of};
+ghost use Rattle.mg_workers.specs.Round.{even, IsFit};
+ghost use Rattle.mg_workers.specs.Run.{Begins, Event, end_after};
+ghost use Rattle.mg_workers.specs.Seats.{row_at, seated};
+
+use crate::held::End;
+use crate::seat::{Seat, Turned};
+use mg_core::{Book, Committed, Entry, Facts, NoMemory, Record, Records};
+use mg_turn::{Outcome, Searcher, Stop, TurnEnd};
+use std::alloc::Global;
+
+/// The most units that a turn is given.
+pub const MOST_UNITS: u64 = 1_024;
+
+/// The number of the one pass.
+const PASS: u32 = 1;
+
+/// Tells a search of the verdict that stood in the book before its turn.
+#[derive(Drop)]
+struct Told<'a, R> {
+    verdict: Option<&'a R>,
+}
+
+impl<'a, R: Record> Stop<R> for Told<'a, R> {
+    ghost use Rattle.std.specs.Prelude.{option_copied};
+
+    ghost known = { λ s. option_copied s.verdict };
+
+    fn look(&mut self) -> Option<&R> {
+        self.verdict
+    }
+}
+
+/// Tells a search nothing.
+#[derive(Drop)]
+struct Silent {}
+
+impl<R: Record> Stop<R> for Silent {
+    ghost use Rattle.std.specs.Prelude.{None};
+
+    ghost known = { λ _. None };
+
+    fn look(&mut self) -> Option<&R> {
+        None
+    }
+}
+
+/// The record that settles the key in the book, if there is one.
+fn verdict<'a, R: Record>(book: &'a Book<R>, key: &R::Key) -> Option<&'a R>
+    ensures { IsSome (option_copied result) → Settled R.settled book.now key.now }
+{
+    match book.verdict(key) {
+        Some((_, record)) => Some(record),
+        None => None,
+    }
+}
+
+/// A turn of a search, which is told of the book's verdict for its key unless it has looked.
+fn turn<R: Record, S: Searcher<R>>(
+    alloc: Global,
+    book: &Book<R>,
+    search: &mut S,
+    looked: bool,
+    units: u64,
+    facts: Facts<R>,
+) -> Result<Outcome<R>, NoMemory>
+    requires is_open { S.is_open_of search.old ≡ true }
+    requires some_units { 1 ≤ units }
+    requires in_all { S.spent_of search.old + units ≤ 2 ^ 62 }
+    requires few { length facts.records ≤ S.wants_of search.old units }
+    requires of_group { AllByRecursion (λ r. R.modelled r ≡ Some (S.group_of search.old)) facts.records }
+    ensures turns { IfOk result (λ outcome. S.turns search.old units facts outcome search.new) }
+    ensures sound { let recording : Recording R R.Key R.Group = record { valid = R.valid; settles = R.settled; model_of = R.modelled } in
+        let searching : Searching R R.Key R.Group S = record { key = S.key_of; group = S.group_of; spent = S.spent_of; is_open = S.is_open_of; wants = S.wants_of; turns = S.turns } in
+        IfOk result (λ outcome. IsSound recording searching search.old units facts outcome search.new) }
+    ensures once { IfOk result (λ outcome. is_stopped outcome.end ≡ true → looked ≡ false) }
+{
+    if looked {
+        return search.turn(alloc, units, facts, &mut Silent {});
+    }
+    let mut told = Told {
+        verdict: verdict(book, search.key()),
+    };
+    search.turn(alloc, units, facts, &mut told)
+}
+
+/// Whether a turn with this end was stopped.
+fn was_stopped<R>(end: &TurnEnd<R>) -> bool
+    ensures { result ≡ is_stopped end.now }
+{
+    match end {
+        TurnEnd::Stopped(_) => true,
+        _ => false,
+    }
+}
+
+/// How a search stands after a turn with this end, whose entry was kept.
+fn end_if_kept<R>(end: &TurnEnd<R>) -> End
+    ensures { result ≡ end_after false end.now }
+{
+    match end {
+        TurnEnd::More | TurnEnd::Stopped(_) => End::More,
+        TurnEnd::Found(_) => End::Found,
+        TurnEnd::Closed(_) => End::Closed,
+        TurnEnd::Idle => End::Idle,
+        TurnEnd::Full { what, count } => End::Full {
+            what: *what,
+            count: *count,
+        },
+    }
+}
+
+/// The records that a turn with this end brings.
+fn records_in<R: Drop>(alloc: Global, end: TurnEnd<R>) -> Records<R>
+    ensures { result ≡ records_of end }
+{
+    match end {
+        TurnEnd::Found(records) => records,
+        TurnEnd::Closed(records) => records,
+        _ => Records::new(alloc),
+    }
+}
+
+/// Commits the entry of a turn for the key, and tells whether it was dropped.
+fn commit<R: Record>(book: &mut Book<R>, key: &R::Key, entry: Entry<R>) -> Result<bool, NoMemory>
+    requires kept { entry.dropped ≡ false }
+    requires few { length entry.records ≤ 2 }
+    requires of_key { AllByRecursion (λ r. IfSome (R.settled r) (λ k. k ≡ key.now)) entry.records }
+    ensures dropped { IfOk result (λ dropped. (dropped ≡ true) ↔ Settled R.settled book.old key.now) }
+    ensures log { IfOk result (λ dropped. book.new ≡ book.old ++ (if dropped then bare entry else entry) ∷ []) }
+{
+    match book.commit(key, entry)? {
+        Committed::Kept { .. } => Ok(false),
+        Committed::Dropped { .. } => Ok(true),
+    }
+}
+
+/// One turn of a search that goes on, whose entry is committed directly after it.
+pub(crate) fn take_turn<R: Record, S: Searcher<R>>(
+    alloc: Global,
+    book: &mut Book<R>,
+    seat: &mut Seat<S>,
+) -> Result<(), NoMemory>
+    requires fit { let searching : Searching R R.Key R.Group S = record { key = S.key_of; group = S.group_of; spent = S.spent_of; is_open = S.is_open_of; wants = S.wants_of; turns = S.turns } in
+        IsFit searching (row_at seat.old) }
+    requires stays { seat.old.left ≡ false }
+    requires allowed { 1 ≤ seat.old.held.allowed }
+    ensures event { let recording : Recording R R.Key R.Group = record { valid = R.valid; settles = R.settled; model_of = R.modelled } in
+        let searching : Searching R R.Key R.Group S = record { key = S.key_of; group = S.group_of; spent = S.spent_of; is_open = S.is_open_of; wants = S.wants_of; turns = S.turns } in
+        OnOk result ((begin : List (EntryOf R)) → Begins begin book.old → Event recording searching 1 even begin (seated (seat.old ∷ []) book.old) (seated (seat.new ∷ []) book.new)) }
+    ensures cell { OnOk result (seat.new.held.cell ≡ seat.old.held.cell) }
+{
+    let units = seat.held.allowed.min(MOST_UNITS);
+    let wants = seat.held.search.wants(units);
+    let facts = book.models(alloc, seat.held.search.group(), seat.held.read, wants)?;
+    let upto = facts.upto;
+    let outcome = turn(
+        alloc,
+        book,
+        &mut seat.held.search,
+        seat.looked,
+        units,
+        facts,
+    )?;
+    let turned = Turned {
+        spent: outcome.spent,
+        upto,
+        stopped: was_stopped(&outcome.end),
+        kept: end_if_kept(&outcome.end),
+    };
+    let entry = Entry {
+        pass: PASS,
+        search: seat.held.number,
+        turn: seat.held.turns,
+        units: outcome.spent,
+        dropped: false,
+        records: records_in(alloc, outcome.end),
+    };
+    let dropped = commit(book, seat.held.search.key(), entry)?;
+    seat.count_turn(turned, dropped);
+    Ok(())
+}
