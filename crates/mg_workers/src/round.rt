@@ -20,15 +20,12 @@ fn go_once<R: Record, S: Searcher<R>>(
     book: &mut Book<R>,
     seats: &mut [Seat<S>],
 ) -> Result<bool, NoMemory>
-    requires {
-        let searching : Searching R R.Key R.Group S = record { key = S.key_of; group = S.group_of; spent = S.spent_of; is_open = S.is_open_of; wants = S.wants_of; turns = S.turns } in
+    requires { let searching : Searching R R.Key R.Group S = record { key = S.key_of; group = S.group_of; spent = S.spent_of; is_open = S.is_open_of; wants = S.wants_of; turns = S.turns } in
         AllByRecursion (IsFit searching) (map row_at seats.old) }
-    ensures runs {
-        let recording : Recording R R.Key R.Group = record { valid = R.valid; settles = R.settled; model_of = R.modelled } in
+    ensures runs { let recording : Recording R R.Key R.Group = record { valid = R.valid; settles = R.settled; model_of = R.modelled } in
         let searching : Searching R R.Key R.Group S = record { key = S.key_of; group = S.group_of; spent = S.spent_of; is_open = S.is_open_of; wants = S.wants_of; turns = S.turns } in
         OnOk result ((begin : List (EntryOf R)) → Begins begin book.old → Runs recording searching 1 even begin (seated seats.old book.old) (seated seats.new book.new)) }
-    ensures fit {
-        let searching : Searching R R.Key R.Group S = record { key = S.key_of; group = S.group_of; spent = S.spent_of; is_open = S.is_open_of; wants = S.wants_of; turns = S.turns } in
+    ensures fit { let searching : Searching R R.Key R.Group S = record { key = S.key_of; group = S.group_of; spent = S.spent_of; is_open = S.is_open_of; wants = S.wants_of; turns = S.turns } in
         OnOk result (AllByRecursion (IsFit searching) (map row_at seats.new)) }
     ensures cells { OnOk result (cells_of seats.new ≡ cells_of seats.old) }
     ensures some { IfOk result (λ some. some ≡ true → turns_ahead (map row_at seats.new) < turns_ahead (map row_at seats.old)) }
@@ -53,11 +50,9 @@ pub fn go_round<R: Record, S: Searcher<R> + Drop>(
     book: &mut Book<R>,
     searches: HeldList<S>,
 ) -> Result<HeldList<S>, NoMemory>
-    requires {
-        let searching : Searching R R.Key R.Group S = record { key = S.key_of; group = S.group_of; spent = S.spent_of; is_open = S.is_open_of; wants = S.wants_of; turns = S.turns } in
+    requires { let searching : Searching R R.Key R.Group S = record { key = S.key_of; group = S.group_of; spent = S.spent_of; is_open = S.is_open_of; wants = S.wants_of; turns = S.turns } in
         AllByRecursion (IsFit searching) (map (row_of false false) searches) }
-    ensures {
-        let recording : Recording R R.Key R.Group = record { valid = R.valid; settles = R.settled; model_of = R.modelled } in
+    ensures { let recording : Recording R R.Key R.Group = record { valid = R.valid; settles = R.settled; model_of = R.modelled } in
         let searching : Searching R R.Key R.Group S = record { key = S.key_of; group = S.group_of; spent = S.spent_of; is_open = S.is_open_of; wants = S.wants_of; turns = S.turns } in
         IfOk result (λ after. GoesRound recording searching searches book.old after book.new) }
 {

@@ -46,12 +46,12 @@ impl<S> Seat<S> {
         requires within { self.old.held.allowed ≤ self.old.held.held }
         requires in_all { self.old.held.spent + self.old.held.held ≤ 2 ^ 62 }
         ensures held { self.new.held ≡ record (self.old.held) {
-            held = self.old.held.held - turned.spent;
-            spent = self.old.held.spent + turned.spent;
-            allowed = self.old.held.allowed - turned.spent;
-            turns = min (self.old.held.turns + 1) (2 ^ 64 - 1);
-            read = (if turned.stopped then self.old.held.read else turned.upto);
-            end = (if dropped then Stopped else turned.kept);
+          held = self.old.held.held - turned.spent;
+          spent = self.old.held.spent + turned.spent;
+          allowed = self.old.held.allowed - turned.spent;
+          turns = min (self.old.held.turns + 1) (2 ^ 64 - 1);
+          read = (if turned.stopped then self.old.held.read else turned.upto);
+          end = (if dropped then Stopped else turned.kept);
         } }
         ensures left { self.new.left ≡ leaves_at (if dropped then Stopped else turned.kept) }
         ensures looked { self.new.looked ≡ (self.old.looked || (turned.stopped && not dropped)) }

@@ -45,15 +45,15 @@ fn a_search_that_found_has_units_left(rt: HostRuntime) -> Result<(), Fail> {
 /// A search for key 7 that has these units and has made no turn.
 fn finder(number: u32, units: u64) -> Held<Finder>
     ensures { result ≡ record {
-        search = record { key = 7; group = 9; spent = 0 };
-        number = number;
-        cell = 0;
-        held = units;
-        spent = 0;
-        allowed = units;
-        turns = 0;
-        read = 0;
-        end = Fresh;
+      search = record { key = 7; group = 9; spent = 0 };
+      number = number;
+      cell = 0;
+      held = units;
+      spent = 0;
+      allowed = units;
+      turns = 0;
+      read = 0;
+      end = Fresh;
     } }
 {
     Held {
@@ -92,7 +92,8 @@ fn run(
 /// Whether the search at the place has spent this many units, holds that many, and stands so.
 fn stands(searches: &[Held<Finder>], place: usize, spent: u64, held: u64, end: End) -> bool {
     match searches.get(place) {
-        Some(search) => (search.spent, search.held, search.allowed) == (spent, held, held) && search.end == end,
+        Some(search) => (search.spent, search.held, search.allowed) == (spent, held, held)
+            && search.end == end,
         None => false,
     }
 }

@@ -76,8 +76,7 @@ fn turn<R: Record, S: Searcher<R>>(
     requires few { length facts.records ≤ S.wants_of search.old units }
     requires of_group { AllByRecursion (λ r. R.modelled r ≡ Some (S.group_of search.old)) facts.records }
     ensures turns { IfOk result (λ outcome. S.turns search.old units facts outcome search.new) }
-    ensures sound {
-        let recording : Recording R R.Key R.Group = record { valid = R.valid; settles = R.settled; model_of = R.modelled } in
+    ensures sound { let recording : Recording R R.Key R.Group = record { valid = R.valid; settles = R.settled; model_of = R.modelled } in
         let searching : Searching R R.Key R.Group S = record { key = S.key_of; group = S.group_of; spent = S.spent_of; is_open = S.is_open_of; wants = S.wants_of; turns = S.turns } in
         IfOk result (λ outcome. IsSound recording searching search.old units facts outcome search.new) }
     ensures once { IfOk result (λ outcome. is_stopped outcome.end ≡ true → looked ≡ false) }
@@ -148,13 +147,11 @@ pub(crate) fn take_turn<R: Record, S: Searcher<R>>(
     book: &mut Book<R>,
     seat: &mut Seat<S>,
 ) -> Result<(), NoMemory>
-    requires fit {
-        let searching : Searching R R.Key R.Group S = record { key = S.key_of; group = S.group_of; spent = S.spent_of; is_open = S.is_open_of; wants = S.wants_of; turns = S.turns } in
+    requires fit { let searching : Searching R R.Key R.Group S = record { key = S.key_of; group = S.group_of; spent = S.spent_of; is_open = S.is_open_of; wants = S.wants_of; turns = S.turns } in
         IsFit searching (row_at seat.old) }
     requires stays { seat.old.left ≡ false }
     requires allowed { 1 ≤ seat.old.held.allowed }
-    ensures event {
-        let recording : Recording R R.Key R.Group = record { valid = R.valid; settles = R.settled; model_of = R.modelled } in
+    ensures event { let recording : Recording R R.Key R.Group = record { valid = R.valid; settles = R.settled; model_of = R.modelled } in
         let searching : Searching R R.Key R.Group S = record { key = S.key_of; group = S.group_of; spent = S.spent_of; is_open = S.is_open_of; wants = S.wants_of; turns = S.turns } in
         OnOk result ((begin : List (EntryOf R)) → Begins begin book.old → Event recording searching 1 even begin (seated (seat.old ∷ []) book.old) (seated (seat.new ∷ []) book.new)) }
     ensures cell { OnOk result (seat.new.held.cell ≡ seat.old.held.cell) }
@@ -163,7 +160,14 @@ pub(crate) fn take_turn<R: Record, S: Searcher<R>>(
     let wants = seat.held.search.wants(units);
     let facts = book.models(alloc, seat.held.search.group(), seat.held.read, wants)?;
     let upto = facts.upto;
-    let outcome = turn(alloc, book, &mut seat.held.search, seat.looked, units, facts)?;
+    let outcome = turn(
+        alloc,
+        book,
+        &mut seat.held.search,
+        seat.looked,
+        units,
+        facts,
+    )?;
     let turned = Turned {
         spent: outcome.spent,
         upto,
