@@ -40,6 +40,11 @@ at_place [] i d within = absurd (omega arith)
 at_place (w ∷ ws) zero d within = refl
 at_place (w ∷ ws) (suc i) d within = at_place ws i d (omega arith)
 
+pub set_itself : {X : Type 0} (xs : List X) (i : ℕ) (d : X) → set xs i (get_or xs i d) ≡ xs
+set_itself [] i d = refl
+set_itself (w ∷ ws) zero d = refl
+set_itself (w ∷ ws) (suc i) d = ap (λ vs. w ∷ vs) (set_itself ws i d)
+
 -- a list that is written over one of its length
 taken_back : {X : Type 0} (new old : List X) (n : ℕ) → length new ≡ n → length old ≡ n → take n (new ++ drop (length new) old) ≡ new
 taken_back [] old n a b = subst (λ m. take m old ≡ []) a refl
@@ -243,6 +248,9 @@ module _ {R K G S : Type 0} (recording : Recording R K G) (searching : Searching
           let sum = total-set (λ row. row.allowed + chances row.left row.looked) old.rows e.place e.row after e.of_row in
           omega (arith, used, turn.within, e.units_upto, changed, sum, turns_ahead_is old.rows, turns_ahead_is (set old.rows e.place after))
 
+pub fit_at : {R K G S : Type 0} (searching : Searching R K G S) (seats : List (Seat S)) (place : ℕ) (seat : Seat S) → slice_get seats place ≡ Some seat → AllByRecursion (IsFit searching) (map row_at seats) → IsFit searching (row_at seat)
+fit_at searching seats place seat here fit = all_at (IsFit searching) (map row_at seats) place (row_at seat) fit (get_map row_at seats place seat here)
+
 -- how far one worker has come with a round of turns: up to which place, and whether some search took one
 module _ {R K G S : Type 0} (recording : Recording R K G) (searching : Searching R K G S) where
   pub record Goes (before : List (Seat S)) (begin : List (Entry R)) (seats : List (Seat S)) (log : List (Entry R)) (some : Bool) (place : ℕ) : Type 0 where
@@ -251,9 +259,6 @@ module _ {R K G S : Type 0} (recording : Recording R K G) (searching : Searching
     pub cells : cells_of seats ≡ cells_of before
     pub fewer : turns_ahead (map row_at seats) + cond some 1 0 ≤ turns_ahead (map row_at before)
     pub over : some ≡ false → AllByRecursion (λ (row : Row S). (row.left ≡ true) ⊎ (row.allowed ≡ 0)) (map row_at (take place seats))
-
-  pub fit_at : (seats : List (Seat S)) (place : ℕ) (seat : Seat S) → slice_get seats place ≡ Some seat → AllByRecursion (IsFit searching) (map row_at seats) → IsFit searching (row_at seat)
-  fit_at seats place seat here fit = all_at (IsFit searching) (map row_at seats) place (row_at seat) fit (get_map row_at seats place seat here)
 
   pub goes_by : (before : List (Seat S)) (begin : List (Entry R)) (seats : List (Seat S)) (log : List (Entry R)) (some : Bool) (place : ℕ) (seat : Seat S) → slice_get seats place ≡ Some seat → (seat.left ≡ true) ⊎ (seat.held.allowed ≡ 0) →
       Goes before begin seats log some place → Goes before begin seats log some (suc place)
@@ -305,17 +310,17 @@ module _ {R K G S : Type 0} (recording : Recording R K G) (searching : Searching
         cells = ap cells_of seats_are ∙ cells_of_new searches;
       }
 
-  pub went_round : (searches : List (Held S)) (begin : List (Entry R)) (seats now : List (Seat S)) (log : List (Entry R)) (after : List (Seat S)) (more : List (Entry R)) → Went searches begin seats log → now ≡ seats →
+  pub went_round : (searches : List (Held S)) (begin : List (Entry R)) (seats now : List (Seat S)) (log : List (Entry R)) (after kept : List (Seat S)) (more : List (Entry R)) → Went searches begin seats log → now ≡ seats → kept ≡ after →
       ((first : List (Entry R)) → Begins first log → Runs recording searching 1 even first (seated now log) (seated after more)) → AllByRecursion (IsFit searching) (map row_at after) → cells_of after ≡ cells_of now →
-      Went searches begin after more
-  went_round searches begin seats now log after more went same run fit cells =
+      Went searches begin kept more
+  went_round searches begin seats now log after kept more went same back run fit cells =
       let there = subst (λ members. Went searches begin members log) (sym same) went in
       let grown = runs_begins recording searching 1 even begin (entered searches begin) (seated now log) there.runs in
-      record {
+      subst (λ members. Went searches begin members more) (sym back) (record {
         runs = runs_then recording searching 1 even begin (entered searches begin) (seated now log) (seated after more) there.runs (run begin grown);
         fit = fit;
         cells = cells ∙ there.cells;
-      }
+      })
 
   pub went_out : (searches : List (Held S)) (begin : List (Entry R)) (seats : List (Seat S)) (log : List (Entry R)) (after : List (Held S)) → Went searches begin seats log → Finished (seated seats log) → after ≡ map (λ (seat : Seat S). seat.held) seats → GoesRound recording searching searches begin after log
   went_out searches begin seats log after went finished after_is = record {

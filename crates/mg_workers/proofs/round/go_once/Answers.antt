@@ -1,5 +1,5 @@
-use Rattle.std.proofs.Common.{◌+◌, suc, set, get_or, true, arith}
-use Rattle.mg_workers.proofs.Rounds.{at_place, fit_at, over_unless, goes_by, goes_on_by, goes_as}
+use Rattle.std.proofs.Common.{◌+◌, ◌∙◌, suc, set, get_or, true, arith}
+use Rattle.mg_workers.proofs.Rounds.{at_place, set_itself, fit_at, over_unless, goes_by, goes_on_by, goes_as}
 use Rattle.mg_workers.proofs.round.go_once.Goals as goal
 use Rattle.mg_workers.proofs.round.go_once.Goals.{then-goes_on+in_ok-take_turn, else-goes_on}
 
@@ -7,7 +7,7 @@ pub take_turn-requires-clause-fit : goal.take_turn-requires-clause-fit
 take_turn-requires-clause-fit g c =
     let seats = c.loop-seat.seats in
     let place = c.loop-seat.seat-index in
-    fit_at _ _ seats place (get_or seats place c.seat-item.result) (at_place seats place c.seat-item.result (omega arith)) c.loop-seat.invariant.fit
+    fit_at _ seats place (get_or seats place c.seat-item.result) (at_place seats place c.seat-item.result (omega arith)) c.loop-seat.invariant.fit
 
 pub loop-seat-preserved : goal.loop-seat-preserved
 loop-seat-preserved g c =
@@ -20,6 +20,6 @@ loop-seat-preserved g c =
           goes_as _ _ c.args.seats.now c.args.book.now (set seats place w.take_turn.new.seat) c.if-goes_on.seats w.take_turn.new.book c.if-goes_on.book true c.if-goes_on.some (suc place) (place + 1) w.seats-is w.book-is w.some-is (omega arith)
           (goes_on_by _ _ g.met.S.Searcher.sound c.args.seats.now c.args.book.now seats c.loop-seat.book w.take_turn.new.book c.loop-seat.some place seat w.take_turn.new.seat here w.in_ok-take_turn.ensures.event w.in_ok-take_turn.ensures.cell c.loop-seat.invariant)
       | else-goes_on w ↦
-          goes_as _ _ c.args.seats.now c.args.book.now seats c.if-goes_on.seats c.loop-seat.book c.if-goes_on.book c.loop-seat.some c.if-goes_on.some (suc place) (place + 1) w.seats-is w.book-is w.some-is (omega arith)
+          goes_as _ _ c.args.seats.now c.args.book.now seats c.if-goes_on.seats c.loop-seat.book c.if-goes_on.book c.loop-seat.some c.if-goes_on.some (suc place) (place + 1) (w.seats-is ∙ set_itself seats place c.seat-item.result) w.book-is w.some-is (omega arith)
           (goes_by _ _ c.args.seats.now c.args.book.now seats c.loop-seat.book c.loop-seat.some place seat here (over_unless seat.left c.goes_on.result seat.held.allowed c.goes_on.ensures w.if-goes_on.false) c.loop-seat.invariant)
     ]

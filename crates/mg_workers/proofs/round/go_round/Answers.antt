@@ -1,7 +1,7 @@
-use Rattle.std.proofs.Common.{◌≡◌, ◌<◌, List, ◌++◌, length, map, take, drop, ap, sym, ◌∙◌, subst}
+use Rattle.std.proofs.Common.{◌≡◌, ◌<◌, List, ◌++◌, length, map, take, drop, refl, ap, sym, ◌∙◌, subst}
 use Rattle.mg_workers.specs.declared.seat.Seat.{Seat}
 use Rattle.mg_workers.specs.Seats.{row_at, turns_ahead}
-use Rattle.mg_workers.proofs.Rounds.{if_ok, seats_back, Went, went_in, went_round, went_out}
+use Rattle.mg_workers.proofs.Rounds.{if_ok, seats_back, went_in, went_round, went_out}
 use Rattle.mg_workers.proofs.round.go_round.Goals as goal
 
 pub loop-seats-init : goal.loop-seats-init
@@ -20,15 +20,15 @@ loop-seats-preserved g c =
     let items = c.loop-seats.seats.items in
     let after = c.go_once.new.seats in
     let back = seats_back items c.deref_mut.result.now after c.loop-seats.seats.len c.deref_mut.ensures.value c.deref_mut.ensures.len c.in_ok-go_once.ensures.cells in
-    subst (λ (members : List (Seat g.row.S.Denot)). Went _ _ c.args.searches c.args.book.now members c.go_once.new.book) (sym back)
-    (went_round _ _ c.args.searches c.args.book.now items c.deref_mut.result.now c.loop-seats.book after c.go_once.new.book c.loop-seats.invariant c.deref_mut.ensures.value c.in_ok-go_once.ensures.runs c.in_ok-go_once.ensures.fit c.in_ok-go_once.ensures.cells)
+    went_round _ _ c.args.searches c.args.book.now items c.deref_mut.result.now c.loop-seats.book after (take c.loop-seats.seats.len (after ++ drop (length after) items)) c.go_once.new.book
+    c.loop-seats.invariant c.deref_mut.ensures.value back c.in_ok-go_once.ensures.runs c.in_ok-go_once.ensures.fit c.in_ok-go_once.ensures.cells
 
 pub returns : goal.returns
 returns g c =
     let items = c.loop-seats.seats.items in
     let after = c.go_once.new.seats in
     let back = seats_back items c.deref_mut.result.now after c.loop-seats.seats.len c.deref_mut.ensures.value c.deref_mut.ensures.len c.in_ok-go_once.ensures.cells in
-    let went = went_round _ _ c.args.searches c.args.book.now items c.deref_mut.result.now c.loop-seats.book after c.go_once.new.book c.loop-seats.invariant c.deref_mut.ensures.value c.in_ok-go_once.ensures.runs c.in_ok-go_once.ensures.fit c.in_ok-go_once.ensures.cells in
+    let went = went_round _ _ c.args.searches c.args.book.now items c.deref_mut.result.now c.loop-seats.book after after c.go_once.new.book c.loop-seats.invariant c.deref_mut.ensures.value refl c.in_ok-go_once.ensures.runs c.in_ok-go_once.ensures.fit c.in_ok-go_once.ensures.cells in
     if_ok (λ searches. searches ≡ map (λ (seat : Seat g.row.S.Denot). seat.held) (take c.loop-seats.seats.len (after ++ drop (length after) items))) _
     (λ searches searches_are. went_out _ _ c.args.searches c.args.book.now after c.go_once.new.book searches went (c.in_ok-go_once.ensures.none c.if-branch.false) (searches_are ∙ ap (map (λ (seat : Seat g.row.S.Denot). seat.held)) back))
     c.searches_of.result c.searches_of.ensures
