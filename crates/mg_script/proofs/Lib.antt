@@ -1,1 +1,6 @@
-pub mod Cuts
+mod Cuts
+pub mod Grammar
+pub mod Rests
+pub mod Written
+pub mod Unique
+pub mod Reaches

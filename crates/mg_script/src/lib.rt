@@ -1,10 +1,12 @@
 //! Statements of the session language.
 #![tactic(auto)]
 
+mod form;
 mod laws;
 mod lines;
 
-pub use laws::one_cut;
+pub use form::{Printed, Property};
+pub use laws::{one_cut, one_place, one_writing};
 pub use lines::Lines;
 
 #[cfg(test)]
