@@ -29,11 +29,11 @@ number_reads n r ps reads = reads_sign a_number r (lexeme.Number n) ps (n, refl)
 procedure_reads : (p : Procedure) (r : Rest) (ps : List Piece) → Reads r ps → Reads (sign_then a_procedure r) (the_keyword (procedure_keyword p) ∷ ps)
 procedure_reads p r ps reads = reads_sign a_procedure r (lexeme.Keyword (procedure_keyword p)) ps (p, refl) reads
 
-abbrev units : ℕ → List (Unit {0})
+abbrev pub units : ℕ → List (Unit {0})
 units zero = []
 units (suc n) = tt ∷ units n
 
-names_units : (n : ℕ) → map (member_pieces listed_name) (units n) ≡ names n
+pub names_units : (n : ℕ) → map (member_pieces listed_name) (units n) ≡ names n
 names_units zero = refl
 names_units (suc n) = ap (λ xs. (a_name ∷ []) ∷ xs) (names_units n)
 

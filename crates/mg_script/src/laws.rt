@@ -3,7 +3,7 @@
 ghost use Rattle.std.specs.Prelude.{◌≡◌, ℕ, List};
 ghost use Rattle.mg_terms.specs.declared.lexeme.Lexeme.{Lexeme};
 ghost use Rattle.mg_script.specs.Lines.{AreLines};
-ghost use Rattle.mg_script.specs.Statement.{Statement, statement_pieces, statement_lexemes};
+ghost use Rattle.mg_script.specs.Statement.{Statement, statement_lexemes};
 ghost use Rattle.mg_script.specs.Cause.{IsReach, IsFirstCause};
 
 use mg_lex::Cause;
@@ -13,10 +13,9 @@ pub fn one_cut()
     ensures { (bytes : List ℕ) (ls ms : List (List ℕ)) → AreLines bytes ls → AreLines bytes ms → ls ≡ ms }
 {}
 
-/// Lexemes are written of one list of pieces: which of them are words of a statement, and which are
-/// single lexemes of its form.
-pub fn one_writing()
-    ensures { (s t : Statement) → statement_lexemes s ≡ statement_lexemes t → statement_pieces s ≡ statement_pieces t }
+/// The grammar is unambiguous: lexemes are one statement only.
+pub fn one_statement()
+    ensures { (s t : Statement) → statement_lexemes s ≡ statement_lexemes t → s ≡ t }
 {}
 
 /// How far lexemes begin a statement is one place, and so is that of the first cause that stands in

@@ -6,7 +6,7 @@ mod laws;
 mod lines;
 
 pub use form::{Printed, Property};
-pub use laws::{one_cut, one_place, one_writing};
+pub use laws::{one_cut, one_place, one_statement};
 pub use lines::Lines;
 
 #[cfg(test)]
