@@ -23,3 +23,12 @@ fn lines_end_in_two_ways(rt: HostRuntime) {
     assert!(rt; are_lines(b"\r\r\na\rb\n\r", b"\r", b"a\rb", b"\r"));
     assert!(rt; Lines::of(b"").next().is_none());
 }
+
+#[test]
+fn laws_are_called(rt: HostRuntime) {
+    one_cut();
+    one_statement();
+    one_place();
+    assert!(rt; Property::Trivial != Property::Onto);
+    assert!(rt; Printed::Facts != Printed::Log);
+}
