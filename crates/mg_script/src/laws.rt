@@ -1,0 +1,27 @@
+//! Laws of scripts. The functions do nothing; their clauses are the laws.
+
+ghost use Rattle.std.specs.Prelude.{◌≡◌, ℕ, List};
+ghost use Rattle.mg_terms.specs.declared.lexeme.Lexeme.{Lexeme};
+ghost use Rattle.mg_script.specs.Lines.{AreLines};
+ghost use Rattle.mg_script.specs.Statement.{Statement, statement_lexemes};
+ghost use Rattle.mg_script.specs.Cause.{IsReach, IsFirstCause};
+
+use mg_lex::Cause;
+
+/// Bytes are cut into lines in one way.
+pub fn one_cut()
+    ensures { (bytes : List ℕ) (ls ms : List (List ℕ)) → AreLines bytes ls → AreLines bytes ms → ls ≡ ms }
+{}
+
+/// The grammar is unambiguous: lexemes are one statement only.
+pub fn one_statement()
+    ensures { (s t : Statement) → statement_lexemes s ≡ statement_lexemes t → s ≡ t }
+{}
+
+/// How far lexemes begin a statement is one place, and so is that of the first cause that stands in
+/// them.
+pub fn one_place()
+    ensures reach { (xs : List Lexeme) (m n : ℕ) → IsReach xs m → IsReach xs n → m ≡ n }
+    ensures first { (xs : List Lexeme) (p q : ℕ) (c d : Cause) →
+        IsFirstCause xs p c → IsFirstCause xs q d → (p ≡ q) × (c ≡ d) }
+{}

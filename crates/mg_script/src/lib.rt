@@ -1,0 +1,13 @@
+//! Statements of the session language.
+#![tactic(auto)]
+
+mod form;
+mod laws;
+mod lines;
+
+pub use form::{Printed, Property};
+pub use laws::{one_cut, one_place, one_statement};
+pub use lines::Lines;
+
+#[cfg(test)]
+mod tests;
