@@ -133,7 +133,7 @@ fn a_second_search_of_the_key_is_dropped(rt: HostRuntime) -> Result<(), Fail> {
     let mut book: Book<Mark> = Book::new(alloc);
     let searches = run(alloc, &mut book, 5, 5)?;
     assert!(rt; stands(searches.as_slice(), 0, 3, 2, End::Found));
-    assert!(rt; stands(searches.as_slice(), 1, 3, 2, End::Stopped));
-    assert!(rt; book.facts() == 1 && notes(&book, 1, 2, 3, true));
+    assert!(rt; stands(searches.as_slice(), 1, 0, 5, End::Stopped));
+    assert!(rt; book.facts() == 1 && notes(&book, 1, 2, 0, true));
     Ok(())
 }
