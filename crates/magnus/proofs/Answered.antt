@@ -6,7 +6,7 @@ use Rattle.mg_io.specs.Bytes.{ReadsWhole}
 use Rattle.magnus.specs.declared.status.Status.{Status}
 use Rattle.magnus.specs.declared.status.Status.TheVariants.{NotBuilt}
 use Rattle.magnus.specs.declared.status.TheConstants.{MOST_SCRIPT_BYTES}
-use Rattle.magnus.specs.Plan.{Plan}
+use Rattle.mg_names.specs.Plan.{Plan}
 use Rattle.magnus.specs.FormPlan.{IsForm}
 use Rattle.magnus.specs.Output.{IsOutput, alone}
 use Rattle.magnus.specs.Command.{IsRunCommand, Unbuilt, other_words, longer, other_form}

@@ -1,13 +1,7 @@
 pub mod Answered
-pub mod Enumerator
 pub mod FormLists
 pub mod FormReduced
 pub mod FormWords
-pub mod Reaching
-pub mod Rows
-pub mod Runs
 pub mod Sessions
-pub mod Settling
-pub mod States
 pub mod Truth
 pub mod Turns

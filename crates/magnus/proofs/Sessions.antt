@@ -14,15 +14,18 @@ use Rattle.mg_numbers.specs.Plain.{NoneAmong, FindsFirst}
 use Rattle.mg_present.specs.Ask.{Inquiry}
 use Rattle.mg_derive.specs.declared.symbol.Symbol.{Symbol}
 use Rattle.mg_derive.specs.Acceptance.{AcceptedAt, IsNumbered, IsAccepted}
-use Rattle.magnus.specs.Plan.{Plan, PlanGroup, PlanQuestion, plain as plain_asked, Step, fund, grant, run, report}
-use Rattle.magnus.specs.Claim.{Verdict, Fact, settled, affirmed, derivation}
-use Rattle.magnus.specs.Validity.{recording, key_of}
-use Rattle.magnus.specs.Search.{Search, plain, searching, procedure_of}
-use Rattle.magnus.specs.State.{State, SearchState, Params, AskOf, IsOf, empty, give_back, ended, row_of, after_row, total_held}
-use Rattle.magnus.specs.Run as step
-use Rattle.magnus.specs.Session.{procedure_place, After, Grants, to_a_new_one, Continues, Session, IsVerdict, line_of, lines_of, new_search, IsBlock, AreBlocks, TextOf, Texts}
-use Rattle.magnus.specs.Report.{SearchLine, QuestionBlock, report_text}
-use Rattle.magnus.specs.Output.{even, alone as alone_params, Prints}
+use Rattle.mg_names.specs.Plan.{AskOf, Plan, PlanGroup, PlanQuestion, plain as plain_asked, Step, fund, grant, run, report}
+use Rattle.mg_certs.specs.Claim.{Verdict, Fact, settled, affirmed, derivation}
+use Rattle.mg_certs.specs.Validity.{recording, key_of}
+use Rattle.mg_search.specs.Search.{Search, plain, searching, procedure_of}
+use Rattle.mg_ledger.specs.declared.ledger.TheConstants.{MOST_FUNDED}
+use Rattle.mg_ledger.specs.Accounts.{total_held}
+use Rattle.mg_session.specs.State.{State, SearchState, Params, IsOf, empty, give_back, ended, row_of, after_row, accounts}
+use Rattle.mg_session.specs.Run as step
+use Rattle.mg_session.specs.Session.{After, Grants, to_a_new_one, Continues, Session, new_search}
+use Rattle.mg_session.specs.Output.{procedure_place, IsVerdict, line_of, lines_of, IsBlock, AreBlocks, TextOf, Texts, Prints}
+use Rattle.mg_report.specs.Report.{SearchLine, QuestionBlock, report_text}
+use Rattle.magnus.specs.Output.{even, alone as alone_params}
 use Rattle.magnus.proofs.Turns.{nothing_settled, going, row, alone, found_row, MoreTurns, more_turns, FoundTurns, found_turns}
 
 module _ (group : PlanGroup) (name : List ℕ) (ask : Inquiry) (N M : ℕ) where
@@ -62,14 +65,14 @@ module _ (group : PlanGroup) (name : List ℕ) (ask : Inquiry) (N M : ℕ) where
   one_line search of_question of_procedure = rw (of_question, of_procedure) refl
 
   -- what is left to show once the run is done: the purse, the search and the log after it
-  from_run : (search : SearchState) (purse : ℕ) (log : List (Entry Fact)) (verdict : Option (ℕ × Verdict)) → M ≤ N → N ≤ 2 ^ 62 → search.question ≡ 0 → procedure_place (procedure_of search.search) ≡ 0 →
+  from_run : (search : SearchState) (purse : ℕ) (log : List (Entry Fact)) (verdict : Option (ℕ × Verdict)) → M ≤ N → N ≤ MOST_FUNDED → search.question ≡ 0 → procedure_place (procedure_of search.search) ≡ 0 →
       step.RunStep plan alone_params None before_run (with_searches purse (search ∷ []) log) →
       IsVerdict (with_searches purse (search ∷ []) log) ask verdict → Ends search purse verdict
   from_run search purse log verdict within few of_question of_procedure ran is_verdict =
       let last = with_searches purse (search ∷ []) log in
       record {
         states = empty ∷ with_searches (0 + N) [] [] ∷ before_run ∷ last ∷ last ∷ [];
-        session = (refl, (inl (omega arith, refl), (inl (omega arith, to_a_new_one tt ask (going ask 0) (question, refl, refl) (tt, refl) refl), (ran, (refl, refl)))));
+        session = (refl, (inl (omega arith, refl), (inl (omega arith, to_a_new_one tt ask (going ask 0) (question, refl, refl) (record { is_plain = tt; search_is = refl }) refl), (ran, (refl, refl)))));
         texts = [] ∷ [] ∷ [] ∷ report_text (0 + N) purse (block verdict search ∷ []) ∷ [];
         texts_are = (
           [],
@@ -129,17 +132,14 @@ module _ (group : PlanGroup) (name : List ℕ) (ask : Inquiry) (N M : ℕ) where
     question = 0;
     number = 1;
     search = going ask spent;
-    granted = M;
-    spent = spent;
-    held = held;
-    returned = 0;
+    account = record { granted = M; spent = spent; held = held; returned = 0 };
     allowed = left;
     turns = turns;
     read = read;
     end = end;
   }
 
-  unsettled_ends : (held spent left turns read : ℕ) (end : End) (log : List (Entry Fact)) → M ≤ N → N ≤ 2 ^ 62 → facts_of log ≡ [] →
+  unsettled_ends : (held spent left turns read : ℕ) (end : End) (log : List (Entry Fact)) → M ≤ N → N ≤ MOST_FUNDED → facts_of log ≡ [] →
       step.Rounds alone_params step.TakesPart allowed_all (with_searches (0 + N - M) (not_found held spent left turns read end ∷ []) log) →
       Ends (not_found held spent left turns read end) (0 + N - M) None
   unsettled_ends held spent left turns read end log within few bare rounds =
@@ -175,7 +175,7 @@ module _ (group : PlanGroup) (name : List ℕ) (ask : Inquiry) (N M : ℕ) where
   }
 
   abbrev pub line : ℕ → ℕ → ℕ → End → SearchLine
-  line spent held returned end = record { procedure = Derive; granted = M; spent = spent; held = held; returned = returned; end = end }
+  line spent held returned end = record { procedure = Derive; account = record { granted = M; spent = spent; held = held; returned = returned }; end = end }
 
   abbrev pub one_block : Option (ℕ × Verdict) → SearchLine → QuestionBlock
   one_block verdict line = record { name = name; names = group.generators; ask = ask; verdict = verdict; searches = line ∷ [] }
@@ -191,7 +191,7 @@ module _ (group : PlanGroup) (name : List ℕ) (ask : Inquiry) (N M : ℕ) where
   }
 
   -- the report where none of the numbers that the units reach is accepted
-  pub prints_open : (end : End) → M ≤ N → N ≤ 2 ^ 62 → (1 ≤ M → end ≡ ends.More) → (M ≡ 0 → end ≡ ends.Fresh) → NoneAmong (AcceptedAt ask) 0 M →
+  pub prints_open : (end : End) → M ≤ N → N ≤ MOST_FUNDED → (1 ≤ M → end ≡ ends.More) → (M ≡ 0 → end ≡ ends.Fresh) → NoneAmong (AcceptedAt ask) 0 M →
       Prints plan alone_params (report_text N (N - M) (one_block None (line M 0 0 end) ∷ []))
   prints_open end within few some_more none_fresh none =
       let funds : 0 + N - M ≡ N - M = omega arith in
@@ -218,10 +218,7 @@ module _ (group : PlanGroup) (name : List ℕ) (ask : Inquiry) (N M : ℕ) where
     question = 0;
     number = 1;
     search = (found_row ask 1 held spent left turns).search;
-    granted = M;
-    spent = spent;
-    held = held;
-    returned = 0;
+    account = record { granted = M; spent = spent; held = held; returned = 0 };
     allowed = left;
     turns = turns;
     read = 0;
@@ -229,7 +226,7 @@ module _ (group : PlanGroup) (name : List ℕ) (ask : Inquiry) (N M : ℕ) where
   }
 
   abbrev pub paid_back : ℕ → ℕ → ℕ → SearchState
-  paid_back held spent turns = record (has_found 0 spent 0 turns) { returned = 0 + held }
+  paid_back held spent turns = record (has_found 0 spent 0 turns) { account = record { granted = M; spent = spent; held = 0; returned = 0 + held } }
 
   rounds_of_found : 1 ≤ M → (units : ℕ) (text : List Symbol) (turns : FoundTurns ask 1 M 0 M 0 ends.Fresh [] units text) →
       step.Rounds alone_params step.TakesPart allowed_all (with_searches (0 + N - M) (has_found turns.last_held turns.last_spent turns.last_allowed turns.last_turns ∷ []) (turns.before ++ turns.entry ∷ []))
@@ -259,7 +256,7 @@ module _ (group : PlanGroup) (name : List ℕ) (ask : Inquiry) (N M : ℕ) where
   }
 
   keeps : (before : List (Entry Fact)) (entry : Entry Fact) (verdict : Verdict) (held spent left turns : ℕ) → facts_of before ≡ [] → entry.search ≡ 1 → entry.dropped ≡ false → entry.records ≡ settled ask verdict ∷ [] →
-      step.KeepsVerdict (with_searches (0 + N - M) (has_found held spent left turns ∷ []) (before ++ entry ∷ [])) (has_found held spent left turns)
+      step.KeepsVerdict (before ++ entry ∷ []) ask 1
   keeps before entry verdict held spent left turns bare by_search kept brings = (
     entry,
     record {
@@ -275,7 +272,7 @@ module _ (group : PlanGroup) (name : List ℕ) (ask : Inquiry) (N M : ℕ) where
     by_search,
   )
 
-  found_ends : (units : ℕ) (text : List Symbol) → 1 ≤ M → M ≤ N → N ≤ 2 ^ 62 → (turns : FoundTurns ask 1 M 0 M 0 ends.Fresh [] units text) →
+  found_ends : (units : ℕ) (text : List Symbol) → 1 ≤ M → M ≤ N → N ≤ MOST_FUNDED → (turns : FoundTurns ask 1 M 0 M 0 ends.Fresh [] units text) →
       Ends (paid_back turns.last_held turns.last_spent turns.last_turns) (0 + N - M + turns.last_held) (Some (1, affirmed (derivation text)))
   found_ends units text some within few turns =
       let log = turns.before ++ turns.entry ∷ [] in
@@ -296,7 +293,7 @@ module _ (group : PlanGroup) (name : List ℕ) (ask : Inquiry) (N M : ℕ) where
       is_verdict
 
   -- the report where a text is found with this many units
-  pub prints_found : (units : ℕ) (text : List Symbol) → M ≤ N → N ≤ 2 ^ 62 → FindsFirst (AcceptedAt ask) 0 M units → IsNumbered ask text units → IsAccepted ask text →
+  pub prints_found : (units : ℕ) (text : List Symbol) → M ≤ N → N ≤ MOST_FUNDED → FindsFirst (AcceptedAt ask) 0 M units → IsNumbered ask text units → IsAccepted ask text →
       Prints plan alone_params (report_text N (N - units) (one_block (Some (1, affirmed (derivation text))) (line units 0 (M - units) ends.Found) ∷ []))
   prints_found units text within few finds numbered accepted =
       let least = finds.some in

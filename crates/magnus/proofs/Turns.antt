@@ -16,9 +16,10 @@ use Rattle.mg_numbers.specs.Plain.{NoneAmong, TestsAll, FindsFirst}
 use Rattle.mg_present.specs.Ask.{Inquiry}
 use Rattle.mg_derive.specs.declared.symbol.Symbol.{Symbol}
 use Rattle.mg_derive.specs.Acceptance.{AcceptedAt, IsNumbered, IsAccepted}
-use Rattle.magnus.specs.Claim.{Fact, settled, affirmed, derivation}
-use Rattle.magnus.specs.Validity.{recording, key_of, group_of}
-use Rattle.magnus.specs.Search.{Search, Plain, plain, searching, PlainTurn}
+use Rattle.mg_certs.specs.Claim.{Fact, settled, affirmed, derivation}
+use Rattle.mg_certs.specs.Validity.{recording, key_of, group_of}
+use Rattle.mg_plain.specs.Plain.{Plain, PlainTurn}
+use Rattle.mg_search.specs.Search.{Search, plain, searching}
 use Rattle.magnus.specs.Output.{even}
 
 -- no models are handed to a search that wants none

@@ -1,7 +1,7 @@
 -- What the program is asked to do, and what it can't do yet.
 use Rattle.std.specs.Prelude.{◌≡◌, ℕ, ◌<◌, List, [], ◌∷◌, length, codes}
 use Rattle.std.specs.Borrow.{Bor}
-use Rattle.magnus.specs.Plan.{Plan}
+use Rattle.mg_names.specs.Plan.{Plan}
 use Rattle.magnus.specs.FormPlan.{IsForm}
 use Rattle.magnus.specs.declared.status.TheConstants.{MOST_SCRIPT_BYTES}
 

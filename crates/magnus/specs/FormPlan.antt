@@ -4,7 +4,7 @@ use Rattle.mg_words.specs.Word.{IsOver, IsReduced}
 use Rattle.mg_words.specs.Chain.{FreelyEqual}
 use Rattle.mg_words.specs.declared.procedure.Procedure.TheVariants.{Derive}
 use Rattle.mg_present.specs.Ask.{Inquiry}
-use Rattle.magnus.specs.Plan.{Plan, plain, fund, grant, run, report}
+use Rattle.mg_names.specs.Plan.{Plan, plain, fund, grant, run, report}
 use Rattle.magnus.specs.Form.{Form, form_of}
 
 -- the freely reduced word of a written one

@@ -2,7 +2,7 @@
 use Rattle.std.specs.Prelude.{◌≡◌, ℕ, ℤ, ◌≤◌, Option, Some, None, Result, Ok, Err, List, length}
 use Rattle.std.specs.List.{AllByRecursion}
 use Rattle.mg_words.specs.Word.{IsOver}
-use Rattle.magnus.specs.Plan.{Plan}
+use Rattle.mg_names.specs.Plan.{Plan}
 use Rattle.magnus.specs.Form.{Form}
 use Rattle.magnus.specs.FormPlan.{plan_with}
 use Rattle.magnus.specs.declared.form.FormRefused.{FormRefused}

@@ -1,16 +1,6 @@
-pub mod Plan
-pub mod Claim
-pub mod Validity
-pub mod Search
-pub mod State
-pub mod Run
-pub mod Report
-pub mod ReportValues
 pub mod Form
 pub mod FormPlan
 pub mod FormReads
-pub mod Session
-pub mod StateOk
 pub mod Output
 pub mod Command
 pub mod Exit

@@ -3,9 +3,9 @@ use Rattle.std.specs.Prelude.{◌≡◌, ℕ, ◌≤◌, Option, None, List, [],
 use Rattle.magnus.specs.declared.form.Script.{Script}
 use Rattle.mg_workers.specs.declared.held.End.{End}
 use Rattle.mg_workers.specs.declared.held.End.TheVariants.{Fresh, More}
-use Rattle.magnus.specs.Plan.{PlanGroup}
-use Rattle.magnus.specs.Claim.{Verdict}
-use Rattle.magnus.specs.Report.{SearchLine, QuestionBlock}
+use Rattle.mg_names.specs.Plan.{PlanGroup}
+use Rattle.mg_certs.specs.Claim.{Verdict}
+use Rattle.mg_report.specs.Report.{SearchLine, QuestionBlock}
 
 abbrev pub group_of : Script → PlanGroup
 group_of script = record { name = codes "G"; generators = script.names; group = script.ask.group }

@@ -5,7 +5,7 @@ ghost use Rattle.mg_words.specs.Letter.{IsLetterOf};
 ghost use Rattle.mg_words.specs.Word.{letters_of};
 ghost use Rattle.magnus.specs.Form.{parts, digits_from, has_leading_zero, numeral, at_least, power_of, exponent_of, run_at, run_of, word_of, behind, before, each, name_of, is_distinct, names_of, between, two, four, member_of, words_of, group_of, question_of, units_of, form_in, form_of};
 ghost use Rattle.mg_present.specs.Presentation.{IsRelator};
-ghost use Rattle.magnus.specs.Plan.{Plan};
+ghost use Rattle.mg_names.specs.Plan.{Plan};
 ghost use Rattle.magnus.specs.FormPlan.{Reduces, EachReduces, inquiry_of, Means, IsForm};
 ghost use Rattle.magnus.specs.FormReads.{Reads, IsWritten, AreWritten, form_with, plan_of};
 ghost use Rattle.magnus.specs.declared.form.FormRefused.TheVariants.{NoMemory as OutOfMemory};

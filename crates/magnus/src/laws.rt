@@ -1,35 +1,26 @@
-//! Laws of legal outputs and of sessions. Each stands on a function without a body.
+//! Laws of legal outputs. Each stands on a function without a body.
 ghost use Rattle.std.specs.Prelude.{◌≡◌, ℕ, ◌+◌, ◌≤◌, List, [], Option, Some, IfSome, slice_get};
 ghost use Rattle.std.specs.List.{AllByRecursion};
-ghost use Rattle.mg_core.specs.Log.{Settled};
-ghost use Rattle.mg_present.specs.Same.{Same, Holds};
+ghost use Rattle.mg_core.specs.declared.entries.Entry.{Entry as EntryOf};
+ghost use Rattle.mg_core.specs.Log.{Settled, KeeperOf};
 ghost use Rattle.mg_numbers.specs.Plain.{First};
-ghost use Rattle.magnus.specs.Plan.{Plan, PlanQuestion};
-ghost use Rattle.magnus.specs.Validity.{Accepted, key_of};
-ghost use Rattle.magnus.specs.Search.{ask_of, procedure_of, AcceptedBy};
-ghost use Rattle.magnus.specs.State.{State, SearchState};
-ghost use Rattle.magnus.specs.Run.{Pairwise, RunStep, TakesPart, within_bound};
-ghost use Rattle.magnus.specs.Session.{IsBlock};
-ghost use Rattle.magnus.specs.Report.{QuestionBlock};
-ghost use Rattle.magnus.specs.StateOk.{StateOk, SpendsWithin, AreSearched};
+ghost use Rattle.mg_present.specs.Same.{Same};
+ghost use Rattle.mg_names.specs.Plan.{PlanQuestion, run};
+ghost use Rattle.mg_certs.specs.Claim.{Fact};
+ghost use Rattle.mg_certs.specs.Validity.{key_of};
+ghost use Rattle.mg_plain.specs.Plain.{AcceptedBy, Publishes, IsPlain};
+ghost use Rattle.mg_search.specs.Search.{ask_of, procedure_of};
+ghost use Rattle.mg_report.specs.Report.{QuestionBlock};
+ghost use Rattle.mg_session.specs.State.{State, SearchState};
+ghost use Rattle.mg_session.specs.Output.{IsBlock};
+ghost use Rattle.mg_session.specs.StateOk.{StateOk};
+ghost use Rattle.mg_session.specs.RunOk.{reach};
 ghost use Rattle.magnus.specs.Output.{IsOutput, alone};
 
 /// In every state behind a legal output each account balances, the funds are in the purse, held or
-/// spent, and every fact is valid.
+/// spent, the log is legal, and each search stands as its entries and the verdicts say.
 pub fn states_are_in_order()
-    ensures { (script output : List ℕ) (legal : IsOutput script alone output) → AllByRecursion (StateOk legal.plan) legal.prints.states }
-{}
-
-/// A verdict that is printed carries a certificate that is accepted for the Ask that is printed.
-pub fn verdicts_carry_certificates()
-    ensures { (plan : Plan) (state : State) (place : ℕ) (question : PlanQuestion) (block : QuestionBlock) →
-        StateOk plan state → IsBlock plan state place question block → IfSome block.verdict (λ verdict. Accepted block.ask verdict.1) }
-{}
-
-/// Where a question stands as answered in a report, each of its goals lies in the subgroup of its group.
-pub fn answers_are_true()
-    ensures { (plan : Plan) (state : State) (place : ℕ) (question : PlanQuestion) (block : QuestionBlock) →
-        StateOk plan state → IsBlock plan state place question block → IfSome block.verdict (λ verdict. Holds block.ask) }
+    ensures { (script output : List ℕ) (legal : IsOutput script alone output) → AllByRecursion (StateOk legal.plan 1) legal.prints.states }
 {}
 
 /// Where a legal output has the answer YES, the word of the script, as it is written there, is the same
@@ -42,25 +33,21 @@ pub fn the_word_is_one()
         IfSome block.verdict (λ verdict. Same block.ask.group legal.is_form.form.question [])) legal.prints.states }
 {}
 
-/// In a run a search spends no more than it holds and the bound allows.
-pub fn runs_stay_within_reach()
-    ensures { (plan : Plan) (bound : Option ℕ) (old new : State) → StateOk plan old → RunStep plan alone bound old new →
-        Pairwise (SpendsWithin bound) old.searches new.searches }
-{}
-
-/// In every state behind a legal output a search that goes on has accepted none of the numbers that it
-/// tested, and one that is over has its Ask settled.
-pub fn states_are_searched()
-    ensures { (script output : List ℕ) (legal : IsOutput script alone output) →
-        AllByRecursion (λ state. AreSearched state.log state.searches) legal.prints.states }
-{}
-
-/// Where a run takes in a search whose reach is at least the first accepted number, its Ask is settled
-/// after that run. The reach is what it has spent, and what it holds and the bound allows.
+/// Behind a legal output, where a run has a search whose reach is at least the first accepted number, the Ask of
+/// that search is settled after the run; and where the Ask isn't settled, a search through numbered objects has
+/// spent its reach. Where the search keeps the verdict, it has published the object with the least number.
 pub fn the_first_number_settles()
-    ensures { (plan : Plan) (bound : Option ℕ) (old new : State) (place : ℕ) (search : SearchState) (n : ℕ) →
-        StateOk plan old → AreSearched old.log old.searches → RunStep plan alone bound old new →
-        slice_get old.searches place ≡ Some search → TakesPart old search →
-        First (AcceptedBy (procedure_of search.search) (ask_of search.search)) n →
-        n ≤ search.spent + within_bound bound search.held → Settled key_of new.log (ask_of search.search) }
+    ensures settles { (script output : List ℕ) (legal : IsOutput script alone output) (step : ℕ) (bound : Option ℕ) (old new : State) (place : ℕ) (search : SearchState) (n : ℕ) →
+        slice_get legal.plan.steps step ≡ Some (run bound) → slice_get legal.prints.states step ≡ Some old → slice_get legal.prints.states (step + 1) ≡ Some new →
+        slice_get old.searches place ≡ Some search → First (AcceptedBy (procedure_of search.search) (ask_of search.search)) n →
+        n ≤ reach bound search → Settled key_of new.log (ask_of search.search) }
+    ensures spends { (script output : List ℕ) (legal : IsOutput script alone output) (step : ℕ) (bound : Option ℕ) (old new : State) (place : ℕ) (search : SearchState) →
+        slice_get legal.plan.steps step ≡ Some (run bound) → slice_get legal.prints.states step ≡ Some old → slice_get legal.prints.states (step + 1) ≡ Some new →
+        slice_get old.searches place ≡ Some search → IsPlain (procedure_of search.search) → (Settled key_of new.log (ask_of search.search) → ⊥) →
+        (after : SearchState) × (slice_get new.searches place ≡ Some after) × (after.account.spent ≡ reach bound search) }
+    ensures least { (script output : List ℕ) (legal : IsOutput script alone output) (step : ℕ) (state : State) (place : ℕ) (search : SearchState) (entry : EntryOf Fact) →
+        slice_get legal.prints.states step ≡ Some state → slice_get state.searches place ≡ Some search →
+        KeeperOf key_of state.log (ask_of search.search) entry → entry.search ≡ search.number →
+        (n : ℕ) × First (AcceptedBy (procedure_of search.search) (ask_of search.search)) n ×
+        Publishes (procedure_of search.search) (ask_of search.search) n entry.records }
 {}

@@ -5,19 +5,14 @@
 mod form;
 mod gate;
 mod laws;
-mod report;
 mod session;
 mod status;
 mod top;
 
 pub use form::{FormRefused, Script, read_form};
 pub use gate::{Gate, NoGate};
-pub use laws::{
-    runs_stay_within_reach, states_are_in_order, states_are_searched, the_first_number_settles,
-    verdicts_carry_certificates,
-};
+pub use laws::{states_are_in_order, the_first_number_settles, the_word_is_one};
 use mg_io::{InputSource, OutputSink};
-pub use report::{QuestionBlock, SearchLine, report};
 pub use session::run_script;
 pub use status::{MOST_SCRIPT_BYTES, Status, code};
 use std::process::ExitCode;

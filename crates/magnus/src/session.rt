@@ -4,14 +4,16 @@ ghost use Rattle.mg_numbers.specs.Plain.{NoneAmong, FindsFirst};
 ghost use Rattle.mg_derive.specs.Acceptance.{AcceptedAt, IsNumbered, IsAccepted};
 ghost use Rattle.magnus.specs.FormReads.{plan_of};
 ghost use Rattle.magnus.specs.Script.{one_block, StandsOpen};
-ghost use Rattle.magnus.specs.Output.{Prints, alone};
-ghost use Rattle.magnus.specs.Report.{report_text};
-ghost use Rattle.magnus.specs.ReportValues.{verdict_of, search_of};
+ghost use Rattle.mg_session.specs.Output.{Prints};
+ghost use Rattle.magnus.specs.Output.{alone};
+ghost use Rattle.mg_report.specs.Report.{report_text};
+ghost use Rattle.mg_report.specs.Values.{verdict_of, search_of};
 
 use crate::form::Script;
-use crate::report::{QuestionBlock, SearchLine, report};
 use mg_derive::{Advance, Derivation, Enumeration};
+use mg_ledger::Account;
 use mg_lists::NoMemory;
+use mg_report::{QuestionBlock, SearchLine, report};
 use mg_words::Procedure;
 use mg_workers::End;
 use std::alloc::Global;
@@ -42,10 +44,12 @@ fn report_open(alloc: Global, script: &Script, end: End) -> Result<Vec<u8>, NoMe
 {
     let line = SearchLine {
         procedure: Procedure::Derive,
-        granted: script.units as u128,
-        spent: script.units,
-        held: 0,
-        returned: 0,
+        account: Account {
+            granted: script.units as u128,
+            spent: script.units,
+            held: 0,
+            returned: 0,
+        },
         end,
     };
     report_one(alloc, script, script.fund - script.units, None, line)
@@ -68,10 +72,12 @@ fn report_found(
     let returned = script.units - spent;
     let line = SearchLine {
         procedure: Procedure::Derive,
-        granted: script.units as u128,
-        spent,
-        held: 0,
-        returned: returned as u128,
+        account: Account {
+            granted: script.units as u128,
+            spent,
+            held: 0,
+            returned: returned as u128,
+        },
         end: End::Found,
     };
     report_one(alloc, script, script.fund - spent, Some((1, text)), line)

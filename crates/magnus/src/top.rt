@@ -4,7 +4,7 @@ ghost use Rattle.std.specs.Io.KnownBytes.{Appends};
 ghost use Rattle.mg_io.specs.Causes.{Rose};
 ghost use Rattle.magnus.specs.Command.{IsRunCommand, Unbuilt};
 ghost use Rattle.magnus.specs.FormPlan.{IsForm};
-ghost use Rattle.magnus.specs.Plan.{Plan};
+ghost use Rattle.mg_names.specs.Plan.{Plan};
 ghost use Rattle.magnus.specs.Output.{IsOutput, alone};
 
 use crate::form::{FormRefused, read_form};

@@ -193,12 +193,12 @@ numbered_one ask s t n a b =
     digits_one ask s t a.symbols b.symbols
     (text_unique k (map (digit_of ask) s) (map (digit_of ask) t) (digits_text ask s a.symbols) (digits_text ask t b.symbols) e)
 
-record Spelled (ask : Inquiry) (digits : List ℕ) : Type 0 where
-  text : List Symbol
-  symbols : AllByRecursion (IsSymbolOf ask) text
-  are_digits : map (digit_of ask) text ≡ digits
+pub record Spelled (ask : Inquiry) (digits : List ℕ) : Type 0 where
+  pub text : List Symbol
+  pub symbols : AllByRecursion (IsSymbolOf ask) text
+  pub are_digits : map (digit_of ask) text ≡ digits
 
-spelled : (ask : Inquiry) (digits : List ℕ) → IsText (symbol_count ask) digits → Spelled ask digits
+pub spelled : (ask : Inquiry) (digits : List ℕ) → IsText (symbol_count ask) digits → Spelled ask digits
 spelled ask [] h = record { text = []; symbols = tt; are_digits = refl }
 spelled ask (digit ∷ digits) h =
     let f = found_of ask digit h.0.least h.0.most in

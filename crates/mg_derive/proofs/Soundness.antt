@@ -1,14 +1,13 @@
 -- What an accepted text shows: each goal lies in the subgroup. A part written out is the same as its
 -- letters followed by its members, since each relator sign goes by one deletion; the letters vanish.
-use Rattle.std.proofs.Common.{◌≡◌, ℕ, ◌+◌, ◌-◌, ◌<◌, ◌≤◌, Bool, true, false, ℤ, List, [], ◌∷◌, ◌++◌, length, get_or, refl, sym, ap, subst, ◌∙◌, arith}
+use Rattle.std.proofs.Common.{◌≡◌, ℕ, ◌-◌, ◌<◌, ◌≤◌, Bool, true, false, ℤ, List, [], ◌∷◌, ◌++◌, length, get_or, refl, ap, subst, ◌∙◌, arith}
 use Rattle.std.specs.Prelude.{slice_index_or, Contains}
 use Rattle.std.specs.List.{AllByRecursion, flat_map}
 use Rattle.std.proofs.lemmas.List.{append-nil}
 use Rattle.std.proofs.lemmas.List.Elements.{Contains-get_or}
 use Rattle.std.proofs.lemmas.Grind.{flat_map-append}
-use Rattle.mg_words.specs.Word.{inv}
 use Rattle.mg_words.specs.Chain.{FreelyEqual, Same}
-use Rattle.mg_words.proofs.Chains.{Same-refl, Same-equal, Same-sym, Same-trans, Same-before, Same-after, Same-from_free, Same-relator, Same-relator_inverse}
+use Rattle.mg_words.proofs.Chains.{Same-refl, Same-sym, Same-trans, Same-before, Same-after, Same-from_free, Same-relator, Same-relator_inverse}
 use Rattle.mg_present.specs.Presentation.{Group}
 use Rattle.mg_present.specs.Ask.{Inquiry}
 use Rattle.mg_present.specs.Same.{signed, product, Lies, Holds}

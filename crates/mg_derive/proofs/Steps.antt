@@ -1,27 +1,29 @@
 -- The steps of the checker's loops.
-use Rattle.std.proofs.Common.{◌≡◌, ◌≢◌, ℕ, ◌+◌, ◌-◌, ◌*◌, ◌<◌, ◌≤◌, Bool, true, false, ℤ, List, [], ◌∷◌, ◌++◌, length, get_or, take, drop, neg_ℤ, Some, refl, sym, ap, subst, ◌∙◌, append_assoc, arith, eq-eqb, max, reverse, Result, Ok, Err}
-use Rattle.std.specs.Prelude.{◌↔◌, ◌==◌, IsTrue, IfOk, slice_get, nat_abs}
+use Rattle.std.proofs.Common.{◌≡◌, ◌≢◌, ℕ, ◌+◌, ◌*◌, ◌<◌, ◌≤◌, Bool, true, false, ℤ, List, [], ◌∷◌, ◌++◌, length, get_or, take, drop, neg_ℤ, Some, refl, sym, ap, subst, ◌∙◌, append_assoc, arith, eq-eqb, reverse, Result, Ok, Err}
+use Rattle.std.specs.Prelude.{◌↔◌, ◌==◌, IsTrue, IfOk, slice_get, nat_abs, not}
 use Rattle.std.proofs.lemmas.Bool.{false≢true}
 use Rattle.std.proofs.lemmas.Bool.Decides.{Decides-eqb}
 use Rattle.std.specs.Ordering.{is_eq}
 use Rattle.std.specs.declared.cmp.Ordering.{Ordering}
 use Rattle.std.specs.declared.cmp.Ordering.TheVariants.{Less, Equal, Greater}
 use Rattle.std.specs.List.{AllByRecursion}
-use Rattle.std.proofs.lemmas.List.{append-nil, length-append, length-take, length-map, length-drop, length-reverse, take_more, drop_more, drop_all, drop-drop, nil_from_length}
+use Rattle.std.proofs.lemmas.List.{append-nil, length-append, length-take, length-map, length-drop, length-reverse, take_more, drop_more, drop_all, nil_from_length}
 use Rattle.std.proofs.Math.Nat.{mul-le-mul_left}
 use Rattle.std.proofs.lemmas.Option.{slice_get_within, get_or_from_slice_get}
 use Rattle.mg_words.specs.Letter.{IsLetterOf, number_of}
-use Rattle.mg_words.specs.Word.{IsReduced}
+use Rattle.mg_words.specs.Word.{IsReduced, inv}
 use Rattle.mg_words.specs.Reduction.{PushesReduced}
-use Rattle.mg_words.proofs.Free.{free_form, free_form-reduced, free_form-length, pushed_onto, pushed_is}
+use Rattle.mg_words.proofs.Chains.{inv-inv}
+use Rattle.mg_words.proofs.Free.{free_form, free_form-left, free_form-right, free_form-times_inverse, free_form-reduced, free_form-length, pushed_onto, pushed_is}
 use Rattle.mg_present.specs.Ask.{Inquiry, IsAsked}
 use Rattle.mg_present.specs.Same.{signed}
 use Rattle.mg_derive.specs.declared.symbol.Symbol.{Symbol}
 use Rattle.mg_derive.specs.declared.symbol.Symbol.TheVariants.{Letter, Relator, Member, Cut}
-use Rattle.mg_derive.specs.Symbols.{IsSymbolOf, word_of, written_out, letters_alone}
-use Rattle.mg_derive.specs.Reading.{Runs}
+use Rattle.mg_derive.specs.Symbols.{IsPlaceIn, IsSymbolOf, word_of, written_out, letters_alone}
+use Rattle.mg_derive.specs.Reading.{Runs, Standing, Takes}
 use Rattle.mg_derive.specs.Acceptance.{IsAccepted}
 use Rattle.mg_derive.specs.Room.{Room, HasRoom}
+use Rattle.mg_derive.specs.Walk.{WritesAtMost}
 use Rattle.mg_derive.proofs.Parts.{accepted_from_runs, runs_from_accepted}
 
 -- a reduced word, before the letters of another are pushed
@@ -73,45 +75,11 @@ letter_within m place inverse x e h k =
     let a : nat_abs x ≡ place = sym (ap nat_abs e) ∙ abs_number place inverse h in
     record { least = omega arith; most = omega arith }
 
--- ---- one symbol read
-
-pub letter_taken : (ask : Inquiry) (goals : List (List ℤ)) (members : Bool) (l w l' w' : List ℤ) (symbol : Symbol) (x : ℤ) → symbol ≡ Letter x
-    → 0 < length goals → IsLetterOf ask.group.generators x → members ≡ false → IsReduced l → IsReduced w → PushesReduced l x l' → PushesReduced w x w'
-    → (rest : List Symbol) → Runs ask (symbol ∷ rest) goals members l w ↔ Runs ask rest goals members l' w'
-letter_taken ask goals members l w l' w' symbol x e g s m h k p q rest =
-    let el = pushed_is l x l' h p in
-    let ew = pushed_is w x w' k q in
-    let there : Runs ask (Letter x ∷ rest) goals members l w → Runs ask rest goals members l' w' =
-    λ r. subst (λ (b : Bool). Runs ask rest goals b l' w') (sym m) (subst (λ (t : List ℤ). Runs ask rest goals false l' t) (sym ew) (subst (λ (t : List ℤ). Runs ask rest goals false t (free_form (w ++ x ∷ []))) (sym el) r.2.1)) in
-    let back : Runs ask rest goals members l' w' → Runs ask (Letter x ∷ rest) goals members l w =
-    λ r. (g, s, (m, subst (λ (t : List ℤ). Runs ask rest goals false t (free_form (w ++ x ∷ []))) el (subst (λ (t : List ℤ). Runs ask rest goals false l' t) ew (subst (λ (b : Bool). Runs ask rest goals b l' w') m r)))) in
-    subst (λ (t : Symbol). Runs ask (t ∷ rest) goals members l w ↔ Runs ask rest goals members l' w') (sym e) (there, back)
+-- ---- one symbol refused
 
 -- the goal at a place
 pub goal_at : (all : List (List ℤ)) (i : ℕ) (g : List ℤ) → slice_get all i ≡ Some g → drop i all ≡ g ∷ drop (i + 1) all
 goal_at all i g e = drop_more all i [] (slice_get_within all i g e) ∙ ap (λ t. t ∷ drop (i + 1) all) (get_or_from_slice_get all i g [] e)
-
-pub cut_taken : (ask : Inquiry) (all : List (List ℤ)) (i : ℕ) (g : List ℤ) (members : Bool) (l w w' : List ℤ) (symbol : Symbol) → symbol ≡ Cut
-    → 0 < length (drop i all) → slice_get all i ≡ Some g → l ≡ [] → w ≡ g → w' ≡ []
-    → (rest : List Symbol) → Runs ask (symbol ∷ rest) (drop i all) members l w ↔ Runs ask rest (drop (i + 1) all) false l w'
-cut_taken ask all i g members l w w' symbol e n s el ew en rest =
-    let d : drop 1 (drop i all) ≡ drop (i + 1) all = drop-drop 1 i all in
-    let f : drop i all ≡ w ∷ drop 1 (drop i all) = goal_at all i g s ∙ (ap (λ t. t ∷ drop (i + 1) all) (sym ew) ∙ ap (λ t. w ∷ t) (sym d)) in
-    let there : Runs ask (Cut ∷ rest) (drop i all) members l w → Runs ask rest (drop (i + 1) all) false l w' =
-    λ r. subst (λ (t : List ℤ). Runs ask rest (drop (i + 1) all) false l t) (sym en)
-    (subst (λ (t : List ℤ). Runs ask rest (drop (i + 1) all) false t []) (sym el) (subst (λ (t : List (List ℤ)). Runs ask rest t false [] []) d r.2.2)) in
-    let back : Runs ask rest (drop (i + 1) all) false l w' → Runs ask (Cut ∷ rest) (drop i all) members l w =
-    λ r. (
-      n,
-      tt,
-      (
-        f,
-        el,
-        subst (λ (t : List (List ℤ)). Runs ask rest t false [] []) (sym d)
-            (subst (λ (t : List ℤ). Runs ask rest (drop (i + 1) all) false t []) el (subst (λ (t : List ℤ). Runs ask rest (drop (i + 1) all) false l t) en r)),
-      ),
-    ) in
-    subst (λ (t : Symbol). Runs ask (t ∷ rest) (drop i all) members l w ↔ Runs ask rest (drop (i + 1) all) false l w') (sym e) (there, back)
 
 pub cut_refused_letters : (ask : Inquiry) (goals : List (List ℤ)) (members : Bool) (l w : List ℤ) (symbol : Symbol) → symbol ≡ Cut → l ≢ []
     → (rest : List Symbol) → Runs ask (symbol ∷ rest) goals members l w → ⊥
@@ -124,6 +92,94 @@ cut_refused_goal ask all i g members l w symbol e s n rest r =
     let h : Runs ask (Cut ∷ rest) (drop i all) members l w = subst (λ (t : Symbol). Runs ask (t ∷ rest) (drop i all) members l w) e r in
     let f : g ∷ drop (i + 1) all ≡ w ∷ drop 1 (drop i all) = sym (goal_at all i g s) ∙ h.2.0 in
     n (cc f)
+
+-- ---- one symbol read
+
+pub letter_exact : (ask : Inquiry) (goal : ℕ) (members : Bool) (l w l' w' : List ℤ) (symbol : Symbol) (x : ℤ) → symbol ≡ Letter x → goal < length ask.goals → IsLetterOf ask.group.generators x → members ≡ false
+    → IsReduced l → IsReduced w → PushesReduced l x l' → PushesReduced w x w' → Takes ask symbol (record { goal = goal; members = members; letters = l; written = w }) (record { goal = goal; members = members; letters = l'; written = w' })
+letter_exact ask goal members l w l' w' symbol x e some s m h k p q =
+    let there : Takes ask (Letter x) (record { goal = goal; members = members; letters = l; written = w }) (record { goal = goal; members = members; letters = l'; written = w' }) =
+    record { some = some; is_symbol = s; allowed = m; goal = refl; members = m; letters = pushed_is l x l' h p; written = pushed_is w x w' k q } in
+    subst (λ (t : Symbol). Takes ask t (record { goal = goal; members = members; letters = l; written = w }) (record { goal = goal; members = members; letters = l'; written = w' })) (sym e) there
+
+pub relator_exact : (ask : Inquiry) (goal : ℕ) (members : Bool) (l w w' : List ℤ) (symbol : Symbol) (place : ℕ) (inverse : Bool) → symbol ≡ Relator place inverse → goal < length ask.goals → IsPlaceIn ask.group.relators place → members ≡ false
+    → IsReduced l → w' ≡ free_form (w ++ word_of ask (Relator place inverse)) → Takes ask symbol (record { goal = goal; members = members; letters = l; written = w }) (record { goal = goal; members = members; letters = l; written = w' })
+relator_exact ask goal members l w w' symbol place inverse e some s m h p =
+    let there : Takes ask (Relator place inverse) (record { goal = goal; members = members; letters = l; written = w }) (record { goal = goal; members = members; letters = l; written = w' }) =
+    record { some = some; is_symbol = s; allowed = m; goal = refl; members = m; letters = word_start l h; written = p } in
+    subst (λ (t : Symbol). Takes ask t (record { goal = goal; members = members; letters = l; written = w }) (record { goal = goal; members = members; letters = l; written = w' })) (sym e) there
+
+pub member_exact : (ask : Inquiry) (goal : ℕ) (members : Bool) (l w w' : List ℤ) (symbol : Symbol) (place : ℕ) (inverse : Bool) → symbol ≡ Member place inverse → goal < length ask.goals → IsPlaceIn ask.subgroup place
+    → IsReduced l → w' ≡ free_form (w ++ word_of ask (Member place inverse)) → Takes ask symbol (record { goal = goal; members = members; letters = l; written = w }) (record { goal = goal; members = true; letters = l; written = w' })
+member_exact ask goal members l w w' symbol place inverse e some s h p =
+    let there : Takes ask (Member place inverse) (record { goal = goal; members = members; letters = l; written = w }) (record { goal = goal; members = true; letters = l; written = w' }) =
+    record { some = some; is_symbol = s; allowed = tt; goal = refl; members = refl; letters = word_start l h; written = p } in
+    subst (λ (t : Symbol). Takes ask t (record { goal = goal; members = members; letters = l; written = w }) (record { goal = goal; members = true; letters = l; written = w' })) (sym e) there
+
+pub cut_exact : (ask : Inquiry) (goal : ℕ) (g : List ℤ) (members : Bool) (l w w' : List ℤ) (symbol : Symbol) → symbol ≡ Cut → goal < length ask.goals → slice_get ask.goals goal ≡ Some g → l ≡ [] → w ≡ g → w' ≡ []
+    → Takes ask symbol (record { goal = goal; members = members; letters = l; written = w }) (record { goal = goal + 1; members = false; letters = l; written = w' })
+cut_exact ask goal g members l w w' symbol e some s el ew en =
+    let there : Takes ask Cut (record { goal = goal; members = members; letters = l; written = w }) (record { goal = goal + 1; members = false; letters = l; written = w' }) = record {
+      some = some;
+      is_symbol = tt;
+      allowed = (el, ew ∙ sym (get_or_from_slice_get ask.goals goal g [] s));
+      goal = refl;
+      members = refl;
+      letters = el ∙ ap (λ t. free_form (t ++ [])) (sym el);
+      written = en;
+    } in
+    subst (λ (t : Symbol). Takes ask t (record { goal = goal; members = members; letters = l; written = w }) (record { goal = goal + 1; members = false; letters = l; written = w' })) (sym e) there
+
+-- ---- one symbol taken back
+
+pub undone : (u w : List ℤ) → IsReduced u → free_form (free_form (u ++ w) ++ inv w) ≡ u
+undone u w h =
+    sym (free_form-left (u ++ w) (inv w))
+    ∙ (ap free_form (append_assoc u w (inv w))
+    ∙ (free_form-right u (w ++ inv w)
+    ∙ (ap (λ t. free_form (u ++ t)) (free_form-times_inverse w) ∙ sym (word_start u h))))
+
+back_to : (u v w z : List ℤ) → IsReduced u → v ≡ free_form (u ++ z) → w ≡ free_form (v ++ inv z) → w ≡ u
+back_to u v w z h e f = f ∙ (ap (λ t. free_form (t ++ inv z)) e ∙ undone u z h)
+
+signed_back : (inverse : Bool) (w : List ℤ) → signed (not inverse) w ≡ inv (signed inverse w)
+signed_back false w = refl
+signed_back true w = sym (inv-inv w)
+
+-- what is taken back where a symbol took these words to those
+pub letter_back : (ask : Inquiry) (symbol : Symbol) (x y : ℤ) (before after : Standing) (l w l' w' : List ℤ) → symbol ≡ Letter x → y ≡ neg_ℤ x → Takes ask symbol before after → after.letters ≡ l → after.written ≡ w
+    → IsReduced before.letters → IsReduced before.written → IsReduced l → IsReduced w → PushesReduced l y l' → PushesReduced w y w' → (l' ≡ before.letters) × (w' ≡ before.written)
+letter_back ask symbol x y before after l w l' w' e f t el ew hl hw k m p q =
+    let there : Takes ask (Letter x) before after = subst (λ (s : Symbol). Takes ask s before after) e t in (
+      back_to before.letters l l' (x ∷ []) hl (sym el ∙ there.letters) (pushed_is l y l' k p ∙ ap (λ z. free_form (l ++ z ∷ [])) f),
+      back_to before.written w w' (x ∷ []) hw (sym ew ∙ there.written) (pushed_is w y w' m q ∙ ap (λ z. free_form (w ++ z ∷ [])) f),
+    )
+
+letters_stay : (before l : List ℤ) → IsReduced before → l ≡ free_form (before ++ []) → l ≡ before
+letters_stay before l h e = e ∙ sym (word_start before h)
+
+pub relator_back : (ask : Inquiry) (symbol : Symbol) (place : ℕ) (inverse : Bool) (before after : Standing) (l w w' : List ℤ) → symbol ≡ Relator place inverse → Takes ask symbol before after → after.letters ≡ l → after.written ≡ w
+    → IsReduced before.letters → IsReduced before.written → w' ≡ free_form (w ++ word_of ask (Relator place (not inverse))) → (l ≡ before.letters) × (w' ≡ before.written)
+relator_back ask symbol place inverse before after l w w' e t el ew hl hw p =
+    let there : Takes ask (Relator place inverse) before after = subst (λ (s : Symbol). Takes ask s before after) e t in (
+      letters_stay before.letters l hl (sym el ∙ there.letters),
+      back_to before.written w w' (word_of ask (Relator place inverse)) hw (sym ew ∙ there.written) (p ∙ ap (λ z. free_form (w ++ z)) (signed_back inverse _)),
+    )
+
+pub member_back : (ask : Inquiry) (symbol : Symbol) (place : ℕ) (inverse : Bool) (before after : Standing) (l w w' : List ℤ) → symbol ≡ Member place inverse → Takes ask symbol before after → after.letters ≡ l → after.written ≡ w
+    → IsReduced before.letters → IsReduced before.written → w' ≡ free_form (w ++ word_of ask (Member place (not inverse))) → (l ≡ before.letters) × (w' ≡ before.written)
+member_back ask symbol place inverse before after l w w' e t el ew hl hw p =
+    let there : Takes ask (Member place inverse) before after = subst (λ (s : Symbol). Takes ask s before after) e t in (
+      letters_stay before.letters l hl (sym el ∙ there.letters),
+      back_to before.written w w' (word_of ask (Member place inverse)) hw (sym ew ∙ there.written) (p ∙ ap (λ z. free_form (w ++ z)) (signed_back inverse _)),
+    )
+
+pub cut_back : (ask : Inquiry) (symbol : Symbol) (goal : ℕ) (g : List ℤ) (before after : Standing) (l w' : List ℤ) → symbol ≡ Cut → Takes ask symbol before after → after.letters ≡ l → before.goal ≡ goal
+    → IsReduced before.letters → IsReduced before.written → slice_get ask.goals goal ≡ Some g → w' ≡ free_form g → (l ≡ before.letters) × (w' ≡ before.written)
+cut_back ask symbol goal g before after l w' e t el f hl hw s p =
+    let there : Takes ask Cut before after = subst (λ (s : Symbol). Takes ask s before after) e t in
+    let same : before.written ≡ g = there.allowed.1 ∙ (ap (λ i. get_or ask.goals i []) f ∙ get_or_from_slice_get ask.goals goal g [] s) in
+    (letters_stay before.letters l hl (sym el ∙ there.letters), p ∙ (ap free_form (sym same) ∙ free_form-reduced before.written hw))
 
 -- ---- the whole text
 
@@ -153,15 +209,6 @@ finished ask text i goal members l w r a g n e h =
 
 -- ---- room for texts of a length
 
-longest_word : (ask : Inquiry) (relator member : ℕ) → ((k : ℕ) → k < length ask.group.relators → length (get_or ask.group.relators k []) ≤ relator)
-    → ((k : ℕ) → k < length ask.subgroup → length (get_or ask.subgroup k []) ≤ member) → (symbol : Symbol) → IsSymbolOf ask symbol → length (word_of ask symbol) ≤ max (max relator member) 1
-longest_word ask relator member h k (Letter x) s = omega arith
-longest_word ask relator member h k (Relator place inverse) s =
-    omega (arith, signed_length inverse (get_or ask.group.relators (place - 1) []), h (place - 1) (omega (arith, s.least, s.most)))
-longest_word ask relator member h k (Member place inverse) s =
-    omega (arith, signed_length inverse (get_or ask.subgroup (place - 1) []), k (place - 1) (omega (arith, s.least, s.most)))
-longest_word ask relator member h k Cut s = omega arith
-
 written_within : (ask : Inquiry) (most : ℕ) → ((symbol : Symbol) → IsSymbolOf ask symbol → length (word_of ask symbol) ≤ most)
     → (text : List Symbol) → AllByRecursion (IsSymbolOf ask) text → length (written_out ask text) ≤ most * length text
 written_within ask most h [] s = omega arith
@@ -175,12 +222,11 @@ letters_within (Relator place inverse ∷ text) = omega (arith, letters_within t
 letters_within (Member place inverse ∷ text) = omega (arith, letters_within text)
 letters_within (Cut ∷ text) = omega (arith, letters_within text)
 
-pub room_for_length : (ask : Inquiry) (relator member symbols : ℕ) (room : Room) → ((k : ℕ) → k < length ask.group.relators → length (get_or ask.group.relators k []) ≤ relator)
-    → ((k : ℕ) → k < length ask.subgroup → length (get_or ask.subgroup k []) ≤ member) → symbols ≤ room.letters → max (max relator member) 1 * symbols ≤ room.written
+pub room_for_length : (ask : Inquiry) (most symbols : ℕ) (room : Room) → WritesAtMost ask most → symbols ≤ room.letters → most * symbols ≤ room.written
     → (text : List Symbol) → AllByRecursion (IsSymbolOf ask) text → length text ≤ symbols → HasRoom ask text room
-room_for_length ask relator member symbols room h k l w text s n = record {
+room_for_length ask most symbols room h l w text s n = record {
   letters = omega (arith, letters_within text);
-  written = omega (arith, written_within ask (max (max relator member) 1) (longest_word ask relator member h k) text s, mul-le-mul_left (max (max relator member) 1) n);
+  written = omega (arith, written_within ask most h text s, mul-le-mul_left most n);
 }
 
 -- two things that an answer says, joined

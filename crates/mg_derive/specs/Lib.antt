@@ -1,5 +1,6 @@
 pub mod Symbols
 pub mod Acceptance
 pub mod Room
-pub mod Search
 pub mod Reading
+pub mod Walk
+pub mod Search

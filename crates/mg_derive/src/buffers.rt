@@ -2,6 +2,7 @@
 ghost use Rattle.std.specs.Prelude.{◌≡◌, ◌≤◌, ◌-◌, List, length, slice_index_or, IfOk, EachIndex, []};
 ghost use Rattle.std.specs.List.{AllByRecursion};
 ghost use Rattle.mg_derive.specs.Room.{HasRoom};
+ghost use Rattle.mg_derive.specs.Walk.{WritesAtMost};
 ghost use Rattle.mg_derive.specs.Symbols.{IsSymbolOf, letters_alone, written_out, word_of};
 ghost use Rattle.mg_derive.specs.declared.symbol.Symbol.{Symbol as SymbolOf};
 
@@ -44,10 +45,8 @@ impl Buffers {
         ensures { IfOk result (λ room. (text : List SymbolOf) → AllByRecursion (IsSymbolOf ask.now) text →
             length text ≤ symbols → HasRoom ask.now text room) }
     {
-        let relator = longest(ask.group().relators());
-        let member = longest(ask.subgroup());
         let letters = symbols as usize;
-        let Some(written) = relator.max(member).max(1).checked_mul(letters) else {
+        let Some(written) = most_written(ask).checked_mul(letters) else {
             return Err(AllocError);
         };
         Buffers::with_room(alloc, letters, written)
@@ -117,6 +116,16 @@ fn length_at(words: &Words, place: u32) -> usize
     } else {
         0
     }
+}
+
+// The most letters that a symbol of the Ask writes, at least 1.
+pub(crate) fn most_written(ask: &Ask) -> usize
+    ensures some { 1 ≤ result }
+    ensures most { WritesAtMost ask.now result }
+{
+    let relator = longest(ask.group().relators());
+    let member = longest(ask.subgroup());
+    relator.max(member).max(1)
 }
 
 // The length of the longest word, or 0.

@@ -1,13 +1,14 @@
 //! The checker of derivations.
-ghost use Rattle.std.specs.Prelude.{◌≡◌, ◌≤◌, ◌<◌, ◌+◌, ◌-◌, ◌↔◌, ◌++◌, [], ◌∷◌, List, length, drop, false, slice_index_or, IsTrue, IfSome, IfNone};
+ghost use Rattle.std.specs.Prelude.{◌≡◌, ◌≤◌, ◌<◌, ◌+◌, ◌-◌, ◌↔◌, ◌++◌, [], ◌∷◌, List, length, drop, false, slice_index_or, IsTrue, IfSome, IfNone, None};
 ghost use Rattle.mg_words.specs.Word.{IsReduced, inv};
 ghost use Rattle.mg_words.proofs.Free.{free_form};
 ghost use Rattle.mg_present.specs.Same.{signed};
 ghost use Rattle.mg_derive.specs.Acceptance.{IsAccepted};
 ghost use Rattle.mg_derive.specs.Room.{HasRoom};
-ghost use Rattle.mg_derive.specs.Symbols.{IsPlaceIn, letter_of, word_of, letters_alone, written_out};
-ghost use Rattle.mg_derive.specs.Reading.{Runs};
+ghost use Rattle.mg_derive.specs.Symbols.{IsPlaceIn, IsSymbolOf, letter_of, word_of, letters_alone, written_out};
+ghost use Rattle.mg_derive.specs.Reading.{Runs, Standing, Takes};
 ghost use Rattle.mg_derive.specs.declared.symbol.Symbol.{Symbol as SymbolOf};
+ghost use Rattle.mg_derive.specs.declared.symbol.Symbol.TheVariants.{Cut};
 
 use crate::buffers::Buffers;
 use crate::derivation::Derivation;
@@ -34,10 +35,10 @@ pub fn accepts(ask: &Ask, text: &Derivation, buffers: &mut Buffers) -> bool
 
 // Where the reader of a text stands: which goal the part is for that it reads, and whether it read a
 // subgroup sign in that part.
-#[derive(Clone, Copy)]
-struct Stand {
-    goal: usize,
-    members: bool,
+#[derive(Clone, Copy, Debug)]
+pub(crate) struct Stand {
+    pub(crate) goal: usize,
+    pub(crate) members: bool,
 }
 
 // Whether the text is accepted, read with two empty words.
@@ -65,7 +66,7 @@ fn read(ask: &Ask, text: &[Symbol], letters: &mut Word, written: &mut Word) -> b
 }
 
 // Takes one more symbol; None exactly where the text can't be accepted whatever follows.
-fn take(
+pub(crate) fn take(
     ask: &Ask,
     symbol: Symbol,
     stand: Stand,
@@ -77,11 +78,12 @@ fn take(
     requires written_reduced { IsReduced written.old.letters }
     requires letters { length letters.old.letters + length (letter_of symbol) ≤ letters.old.capacity }
     requires written { length written.old.letters + length (word_of ask.now symbol) ≤ written.old.capacity }
-    ensures taken { IfSome result (λ next. (rest : List SymbolOf) →
-        Runs ask.now (symbol ∷ rest) (drop stand.goal ask.now.goals) stand.members letters.old.letters written.old.letters
-        ↔ Runs ask.now rest (drop next.goal ask.now.goals) next.members letters.new.letters written.new.letters) }
+    ensures taken { IfSome result (λ next. Takes ask.now symbol
+        (record { goal = stand.goal; members = stand.members; letters = letters.old.letters; written = written.old.letters })
+        (record { goal = next.goal; members = next.members; letters = letters.new.letters; written = written.new.letters })) }
     ensures refused { IfNone result ((rest : List SymbolOf) →
         Runs ask.now (symbol ∷ rest) (drop stand.goal ask.now.goals) stand.members letters.old.letters written.old.letters → ⊥) }
+    ensures same { result ≡ None → (letters.new.letters ≡ letters.old.letters) × (written.new.letters ≡ written.old.letters) }
     ensures goal { IfSome result (λ next. next.goal ≤ length ask.now.goals) }
     ensures letters_reduced { IsReduced letters.new.letters }
     ensures written_reduced { IsReduced written.new.letters }
@@ -126,6 +128,46 @@ fn take(
                 goal: stand.goal + 1,
                 members: false,
             })
+        }
+    }
+}
+
+// Takes a symbol back, which was taken where the part was for this goal: the two words are again as they
+// were before.
+pub(crate) fn take_back(
+    ask: &Ask,
+    symbol: Symbol,
+    goal: usize,
+    letters: &mut Word,
+    written: &mut Word,
+)
+    requires symbol { IsSymbolOf ask.now symbol }
+    requires goal { goal < length ask.now.goals }
+    requires letters_reduced { IsReduced letters.old.letters }
+    requires written_reduced { IsReduced written.old.letters }
+    requires letters { length letters.old.letters + length (letter_of symbol) ≤ letters.old.capacity }
+    requires written { length written.old.letters + length (word_of ask.now symbol) ≤ written.old.capacity }
+    requires goal_room { symbol ≡ Cut → length (slice_index_or ask.now.goals goal []) ≤ written.old.capacity }
+    ensures back { (before after : Standing) → before.goal ≡ goal → IsReduced before.letters → IsReduced before.written →
+        Takes ask.now symbol before after → after.letters ≡ letters.old.letters → after.written ≡ written.old.letters →
+        (letters.new.letters ≡ before.letters) × (written.new.letters ≡ before.written) }
+    ensures letters_room { letters.old.capacity ≤ letters.new.capacity }
+    ensures written_room { written.old.capacity ≤ written.new.capacity }
+{
+    match symbol {
+        Symbol::Letter(letter) => {
+            push_reduced(letters, letter.inverted());
+            push_reduced(written, letter.inverted());
+        }
+        Symbol::Relator { place, inverse } => {
+            write_sign(ask.group().relators(), place, !inverse, written);
+        }
+        Symbol::Member { place, inverse } => {
+            write_sign(ask.subgroup(), place, !inverse, written);
+        }
+        Symbol::Cut => {
+            written.clear();
+            write_word(ask.goals().at(goal).letters(), written);
         }
     }
 }

@@ -1,5 +1,5 @@
 //! Derivations as values.
-ghost use Rattle.std.specs.Prelude.{◌≡◌, ◌≤◌, ◌<◌, [], ◌∷◌, ◌++◌, IfOk, length};
+ghost use Rattle.std.specs.Prelude.{◌≡◌, ◌≤◌, ◌<◌, [], ◌∷◌, ◌++◌, IfOk, None, length, option_to_list};
 
 use crate::symbol::Symbol;
 use mg_words::NoMemory;
@@ -70,5 +70,14 @@ impl Derivation {
         ensures capacity { self.new.capacity ≡ self.old.capacity }
     {
         self.symbols.push_reserved(symbol);
+    }
+
+    // Takes the last symbol off.
+    pub(crate) fn pop(&mut self) -> Option<Symbol>
+        ensures symbols { self.old.symbols ≡ self.new.symbols ++ option_to_list result }
+        ensures none { result ≡ None → self.old.symbols ≡ [] }
+        ensures capacity { self.new.capacity ≡ self.old.capacity }
+    {
+        self.symbols.pop()
     }
 }

@@ -9,13 +9,14 @@ mod laws;
 mod numbering;
 mod search;
 mod symbol;
+mod walk;
 
 pub use buffers::Buffers;
 pub use checker::accepts;
 pub use derivation::Derivation;
 pub use laws::accepted_derivations_hold;
 pub use mg_words::NoMemory;
-pub use numbering::{symbol_count, symbol_of, symbols_at, texts_and_numbers_correspond};
+pub use numbering::{digit_of, symbol_count, symbol_of, symbols_at, texts_and_numbers_correspond};
 pub use search::{Advance, Enumeration};
 pub use symbol::Symbol;
 

@@ -3,7 +3,7 @@ ghost use Rattle.std.specs.Prelude.{◌≡◌, ℕ, ◌+◌, ◌*◌, ◌^◌, �
 ghost use Rattle.std.specs.List.{AllByRecursion};
 ghost use Rattle.mg_numbers.specs.Texts.{IsText};
 ghost use Rattle.mg_present.specs.Ask.{Inquiry};
-ghost use Rattle.mg_derive.specs.Symbols.{IsSymbolOf, digit_of, pair_digit, symbol_count as count_of};
+ghost use Rattle.mg_derive.specs.Symbols.{IsSymbolOf, digit_of as value_of, pair_digit, symbol_count as count_of};
 ghost use Rattle.mg_derive.specs.Acceptance.{IsNumbered};
 ghost use Rattle.mg_derive.specs.declared.symbol.Symbol.{Symbol as SymbolOf};
 
@@ -27,7 +27,7 @@ pub fn symbol_of(ask: &Ask, digit: u32) -> Symbol
     requires least { 1 ≤ digit }
     requires most { digit ≤ count_of ask.now }
     ensures symbol { IsSymbolOf ask.now result }
-    ensures digit { digit_of ask.now result ≡ digit }
+    ensures digit { value_of ask.now result ≡ digit }
 {
     let group = ask.group();
     let letters = 2 * group.generators();
@@ -62,6 +62,31 @@ fn sign_at(digit: u32) -> (u32, bool)
     ((digit - 1) / 2 + 1, digit % 2 == 0)
 }
 
+/// The digit of a symbol of the Ask.
+pub fn digit_of(ask: &Ask, symbol: Symbol) -> u32
+    requires { IsSymbolOf ask.now symbol }
+    ensures { result ≡ value_of ask.now symbol }
+{
+    let group = ask.group();
+    let relators_from = 2 * group.generators();
+    let members_from = relators_from + 2 * group.relators().len() as u32;
+    match symbol {
+        Symbol::Letter(letter) => sign_digit(u32::from(letter.generator), letter.inverse),
+        Symbol::Relator { place, inverse } => relators_from + sign_digit(place, inverse),
+        Symbol::Member { place, inverse } => members_from + sign_digit(place, inverse),
+        Symbol::Cut => symbol_count(ask),
+    }
+}
+
+// The digit of a place and a sign among signs that have two digits each.
+fn sign_digit(place: u32, inverse: bool) -> u32
+    requires least { 1 ≤ place }
+    requires most { place ≤ 256 }
+    ensures { result ≡ pair_digit 0 place inverse }
+{
+    if inverse { 2 * place } else { 2 * place - 1 }
+}
+
 /// Puts the text of the Ask that has this number. It takes no memory.
 pub fn symbols_at(ask: &Ask, number: u64, out: &mut Derivation, digits: &mut Digits)
     requires room { 4096 ≤ out.old.capacity }
@@ -69,6 +94,7 @@ pub fn symbols_at(ask: &Ask, number: u64, out: &mut Derivation, digits: &mut Dig
     requires most { number ≤ 2 ^ 62 }
     requires one_symbol { count_of ask.now ≡ 1 → number ≤ 4097 }
     ensures numbered { IsNumbered ask.now out.new.symbols number }
+    ensures digits { digits.new ≡ map (value_of ask.now) out.new.symbols }
     ensures capacity { out.old.capacity ≤ out.new.capacity }
 {
     text_of(number - 1, symbol_count(ask), digits);
@@ -80,7 +106,7 @@ pub(crate) fn write_symbols(ask: &Ask, digits: &[u32], out: &mut Derivation)
     requires text { IsText (count_of ask.now) digits.now }
     requires room { length digits.now ≤ out.old.capacity }
     ensures symbols { AllByRecursion (IsSymbolOf ask.now) out.new.symbols }
-    ensures digits { map (digit_of ask.now) out.new.symbols ≡ digits.now }
+    ensures digits { map (value_of ask.now) out.new.symbols ≡ digits.now }
     ensures capacity { out.old.capacity ≤ out.new.capacity }
 {
     out.clear();

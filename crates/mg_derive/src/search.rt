@@ -1,20 +1,11 @@
 //! The search through the texts of an Ask in the order of their numbers.
-ghost use Rattle.std.specs.Prelude.{◌≡◌, ℕ, ◌+◌, ◌^◌, ◌<◌, ◌≤◌, true, false, not, [], length, IfOk, IsTrue};
+ghost use Rattle.std.specs.Prelude.{◌≡◌, ℕ, ◌+◌, ◌^◌, ◌≤◌, true, false, [], IfOk};
 ghost use Rattle.mg_numbers.specs.Plain.{NoneAmong, TestsAll, FindsFirst};
-ghost use Rattle.mg_numbers.specs.Texts.{IsText, value};
-ghost use Rattle.mg_present.specs.Ask.{IsAsked};
 ghost use Rattle.mg_derive.specs.Acceptance.{AcceptedAt, IsAccepted, IsNumbered};
-ghost use Rattle.mg_derive.specs.Room.{HasRoom};
-ghost use Rattle.mg_derive.specs.Symbols.{symbol_count as count_of};
-ghost use Rattle.mg_derive.specs.Reading.{cuts_among};
-ghost use Rattle.mg_derive.specs.Search.{HasRoomForAll};
 ghost use Rattle.mg_derive.specs.declared.search.Advance.TheVariants.{More, Found};
 
-use crate::buffers::Buffers;
-use crate::checker::accepts;
 use crate::derivation::Derivation;
-use crate::numbering::{symbol_count, write_symbols};
-use mg_numbers::{Digits, MOST_DIGITS};
+use crate::walk::Walk;
 use mg_present::Ask;
 use mg_words::NoMemory;
 use std::alloc::Global;
@@ -37,12 +28,9 @@ pub enum Advance {
 #[derive(Debug, Drop)]
 pub struct Enumeration {
     ask: Ask,
-    base: u32,
     cursor: u64,
     is_open: bool,
-    digits: Digits,
-    text: Derivation,
-    buffers: Buffers,
+    walk: Walk,
 }
 
 impl Model for Enumeration {
@@ -50,9 +38,9 @@ impl Model for Enumeration {
 
     ghost Value = { Searched };
 
-    ghost view = { λ s. record { ask = s.ask; cursor = s.cursor; is_open = s.is_open; text = s.text.symbols } };
+    ghost view = { λ s. record { ask = s.ask; cursor = s.cursor; is_open = s.is_open; text = s.walk.text.symbols } };
 
-    ghost invariant = { λ s. IsReady s.ask s.base s.cursor s.is_open s.digits s.text.capacity s.buffers };
+    ghost invariant = { λ s. IsReady s.ask s.cursor s.is_open s.walk };
 }
 
 impl Enumeration {
@@ -63,19 +51,12 @@ impl Enumeration {
         ensures goes_on { IfOk result (λ search. search.is_open ≡ true) }
         ensures text { IfOk result (λ search. search.text ≡ []) }
     {
-        let base = symbol_count(&ask);
-        let _goals = ask.goals();
-        let digits = Digits::make(alloc)?;
-        let text = Derivation::with_room(alloc, MOST_DIGITS)?;
-        let buffers = Buffers::for_length(alloc, &ask, 62)?;
+        let walk = Walk::start(alloc, &ask)?;
         Ok(Enumeration {
             ask,
-            base,
             cursor: 0,
             is_open: true,
-            digits,
-            text,
-            buffers,
+            walk,
         })
     }
 
@@ -99,7 +80,7 @@ impl Enumeration {
     pub fn text(&self) -> &Derivation
         ensures { result.now.symbols ≡ self.now.text }
     {
-        &self.text
+        &self.walk.text
     }
 
     /// Tests the next texts, one for each unit, up to the first that is accepted. It takes no memory.
@@ -124,97 +105,16 @@ impl Enumeration {
         // While the search goes on, no text up to its cursor is accepted.
         ensures none { self.new.is_open ≡ true → NoneAmong (AcceptedAt self.new.ask) 0 self.new.cursor }
     {
-        let mut spent = 0;
-        while spent < units {
-            spent += 1;
-            if self.test_next() {
+        let last = self.cursor + units;
+        while self.walk.next <= last {
+            if self.walk.step(&self.ask) {
+                let spent = self.walk.next - self.cursor;
+                self.cursor = self.walk.next;
+                self.is_open = false;
                 return Advance::Found { spent };
             }
         }
+        self.cursor = last;
         Advance::More
     }
-
-    // Tests the next text, and goes on to the one after it unless that one is accepted.
-    fn test_next(&mut self) -> bool
-        requires goes_on { self.old.is_open ≡ true }
-        requires most { self.old.cursor < 2 ^ 62 }
-        ensures ask { self.new.ask ≡ self.old.ask }
-        ensures cursor { self.new.cursor ≡ self.old.cursor + 1 }
-        ensures goes_on { self.new.is_open ≡ not result }
-        ensures numbered { IsTrue result → IsNumbered self.new.ask self.new.text self.new.cursor }
-        ensures accepted { IsTrue result → IsAccepted self.new.ask self.new.text }
-        ensures refused { result ≡ false → AcceptedAt self.old.ask self.new.cursor → ⊥ }
-        ensures none { self.new.is_open ≡ true → NoneAmong (AcceptedAt self.new.ask) 0 self.new.cursor }
-    {
-        let found = is_accepted(
-            &self.ask,
-            self.base,
-            &self.digits,
-            &mut self.text,
-            &mut self.buffers,
-        );
-        self.cursor += 1;
-        if found {
-            self.is_open = false;
-        } else {
-            self.digits.advance(self.base);
-        }
-        found
-    }
-}
-
-// Whether the text with these digits is accepted. The symbols are looked at only where the cuts among the
-// digits allow it.
-fn is_accepted(
-    ask: &Ask,
-    base: u32,
-    digits: &Digits,
-    text: &mut Derivation,
-    buffers: &mut Buffers,
-) -> bool
-    requires base { base ≡ count_of ask.now }
-    requires digits { IsText base digits.now }
-    requires most { value base digits.now ≤ 2 ^ 62 }
-    requires capacity { 4096 ≤ text.old.capacity }
-    requires room { HasRoomForAll ask.now buffers.old }
-    ensures numbered { IsTrue result → IsNumbered ask.now text.new.symbols (value base digits.now + 1) }
-    ensures accepted { IsTrue result → IsAccepted ask.now text.new.symbols }
-    ensures refused { result ≡ false → AcceptedAt ask.now (value base digits.now + 1) → ⊥ }
-    ensures capacity { 4096 ≤ text.new.capacity }
-    ensures room { HasRoomForAll ask.now buffers.new }
-{
-    let digits = digits.as_slice();
-    if !can_be_accepted(ask, base, digits) {
-        return false;
-    }
-    write_symbols(ask, digits, text);
-    accepts(ask, text, buffers)
-}
-
-// Whether a text with these digits may be accepted: one that isn't empty ends with the cut, and there are
-// as many cuts as goals.
-fn can_be_accepted(ask: &Ask, base: u32, digits: &[u32]) -> bool
-    requires base { base ≡ count_of ask.now }
-    requires digits { IsText base digits.now }
-    ensures { result ≡ false → AcceptedAt ask.now (value base digits.now + 1) → ⊥ }
-{
-    if let Some(last) = digits.last() {
-        if *last != base {
-            return false;
-        }
-    }
-    cut_count(base, digits) == ask.goals().len()
-}
-
-// How many of the digits are the cut.
-fn cut_count(cut: u32, digits: &[u32]) -> usize
-    ensures { result ≡ cuts_among cut digits.now }
-{
-    let mut count = 0;
-    for &digit in digits {
-        if digit == cut {
-            count += 1;
-        }
-    }
-    count
 }

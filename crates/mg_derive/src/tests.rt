@@ -97,6 +97,33 @@ fn ask_of(alloc: Global, row: &Row) -> Result<Ask, NoMemory> {
     Ok(Ask::new(group, subgroup, goals))
 }
 
+// So many empty words.
+fn empty_words(alloc: Global, count: usize) -> Result<Words, NoMemory>
+    ensures words { IfOk result (λ words. AllByRecursion (IsReducedOver 0) words) }
+    ensures count { IfOk result (λ words. length words ≤ count) }
+{
+    let mut words = Words::new(alloc);
+    for _word in 0..count {
+        words.push(Word::new(alloc))?;
+    }
+    Ok(words)
+}
+
+// Whether 4,096 empty words lie in the trivial subgroup of the trivial group.
+fn empty_goals(alloc: Global) -> Result<Ask, NoMemory> {
+    let group = Presentation::new(0, Words::new(alloc));
+    Ok(Ask::new(group, Words::new(alloc), empty_words(alloc, 4_096)?))
+}
+
+// Whether the search finds as many cuts as goals there.
+fn cuts_are_found(alloc: Global) -> Result<bool, NoMemory> {
+    let mut search = Enumeration::start(alloc, empty_goals(alloc)?)?;
+    if search.advance(5_000) != (Advance::Found { spent: 4_097 }) {
+        return Ok(false);
+    }
+    Ok(search.text().symbols().len() == 4_096)
+}
+
 // Whether b^-1 a lies in the subgroup of the free group that a^2 and a b generate.
 fn free_ask(alloc: Global) -> Result<Ask, NoMemory> {
     ask_of(
@@ -116,10 +143,37 @@ fn free_ask(alloc: Global) -> Result<Ask, NoMemory> {
 fn finds(alloc: Global, row: &Row) -> Result<bool, NoMemory> {
     let mut search = Enumeration::start(alloc, ask_of(alloc, row)?)?;
     let spent = row.number;
-    if search.advance(2_000) != (Advance::Found { spent }) {
+    if search.advance(300_000) != (Advance::Found { spent }) {
         return Ok(false);
     }
     Ok(search.cursor() == spent && search.text().symbols() == row.text)
+}
+
+// Whether the search finds the text of the row in turns of so many units.
+fn finds_in_turns(alloc: Global, row: &Row, units: u64) -> Result<bool, NoMemory>
+    requires least { 1 ≤ units }
+    requires most { units ≤ 1_000 }
+{
+    let mut search = Enumeration::start(alloc, ask_of(alloc, row)?)?;
+    for _turn in 0..2_000 {
+        if search.cursor() > 300_000 {
+            return Ok(false);
+        }
+        if search.advance(units) != Advance::More {
+            return Ok(search.cursor() == row.number && search.text().symbols() == row.text);
+        }
+    }
+    Ok(false)
+}
+
+// Whether the digit 8 has a symbol that has the digit 8.
+fn digit_comes_back(alloc: Global) -> Result<bool, NoMemory> {
+    let ask = free_ask(alloc)?;
+    if symbol_count(&ask) != 9 {
+        return Ok(false);
+    }
+    let symbol = symbol_of(&ask, 8);
+    Ok(digit_of(&ask, symbol) == 8)
 }
 
 #[test]
@@ -188,6 +242,42 @@ fn first_texts_with_two_generators(rt: HostRuntime) -> Result<(), Fail> {
 }
 
 #[test]
+fn the_first_text_of_two_goals(rt: HostRuntime) -> Result<(), Fail> {
+    let two_goals = Row {
+        generators: 1,
+        relators: &[&[A, A]],
+        subgroup: &[],
+        goals: &[&[A, A], &[A, A]],
+        number: 521,
+        text: &[RELATOR_1, Symbol::Cut, RELATOR_1, Symbol::Cut],
+    };
+    assert!(rt; finds(rt.alloc(), &two_goals)?);
+    Ok(())
+}
+
+#[test]
+fn an_ask_with_one_symbol_is_settled_by_cuts(rt: HostRuntime) -> Result<(), Fail> {
+    assert!(rt; cuts_are_found(rt.alloc())?);
+    Ok(())
+}
+
+#[test]
+fn turns_of_any_size_find_the_same(rt: HostRuntime) -> Result<(), Fail> {
+    let free = Row {
+        generators: 2,
+        relators: &[],
+        subgroup: &[&[A, A], &[A, B]],
+        goals: &[&[B_BACK, A]],
+        number: 703,
+        text: &[MEMBER_2_BACK, MEMBER_1, Symbol::Cut],
+    };
+    assert!(rt; finds_in_turns(rt.alloc(), &free, 1)?);
+    assert!(rt; finds_in_turns(rt.alloc(), &free, 7)?);
+    assert!(rt; finds_in_turns(rt.alloc(), &free, 1_000)?);
+    Ok(())
+}
+
+#[test]
 fn a_letter_after_a_member_sign_is_refused(rt: HostRuntime) -> Result<(), Fail> {
     let alloc = rt.alloc();
     let ask = free_ask(alloc)?;
@@ -223,6 +313,12 @@ fn texts_by_number(rt: HostRuntime) -> Result<(), Fail> {
     assert_eq!(rt; text.copy(alloc)?.symbols(), text.symbols());
     let mut buffers = Buffers::for_length(alloc, &ask, 3)?;
     assert!(rt; accepts(&ask, &text, &mut buffers));
+    Ok(())
+}
+
+#[test]
+fn digits_of_symbols(rt: HostRuntime) -> Result<(), Fail> {
+    assert!(rt; digit_comes_back(rt.alloc())?);
     Ok(())
 }
 

@@ -1,3 +1,4 @@
 pub mod Presentation
 pub mod Ask
 pub mod Same
+pub mod Image

@@ -8,7 +8,7 @@ mod laws;
 mod presentation;
 
 pub use ask::{Ask, MOST_GOALS, MOST_SUBGROUP_WORDS};
-pub use gen_map::GenMap;
+pub use gen_map::{GenMap, MOST_MAPPED_LETTERS, image, image_length};
 pub use laws::{
     equal_asks_are_one, sameness_is_an_equivalence, sameness_is_kept, subgroups_are_closed,
     words_are_the_same,

@@ -1,11 +1,19 @@
+ghost use Rattle.std.specs.Prelude.{◌≤◌, IfOk, length};
+ghost use Rattle.std.specs.List.{AllByRecursion};
+
 use super::*;
-use mg_words::{Letter, Word, Words};
-use std::alloc::Global;
+use mg_words::{Letter, Word, Words, is_over};
+use std::alloc::{AllocError, Global};
 use std::cmp::Ordering;
 use std::test::Fail;
 
 const A: Letter = Letter {
     generator: 1,
+    inverse: false,
+};
+
+const B: Letter = Letter {
+    generator: 2,
     inverse: false,
 };
 
@@ -17,11 +25,7 @@ fn one_word(alloc: Global, letters: &[Letter]) -> Result<Words, NoMemory> {
 
 #[test]
 fn relators_are_reduced_words_over_the_generators(rt: HostRuntime) -> Result<(), Fail> {
-    let b = Letter {
-        generator: 2,
-        inverse: false,
-    };
-    for (letters, fitting) in [([A, A], true), ([A, A.inverted()], false), ([A, b], false)] {
+    for (letters, fitting) in [([A, A], true), ([A, A.inverted()], false), ([A, B], false)] {
         let words = one_word(rt.alloc(), &letters)?;
         assert_eq!(rt; fits(1, &words), fitting);
     }
@@ -51,5 +55,32 @@ fn asks_keep_what_is_asked(rt: HostRuntime) -> Result<(), Fail> {
     assert_eq!(rt; ask.group().generators(), 1);
     assert_eq!(rt; ask.subgroup().len(), 0);
     assert_eq!(rt; ask.goals().len(), 0);
+    Ok(())
+}
+
+// The map with these images, where each is short; else no memory.
+fn map_of(alloc: Global, lists: &[&[Letter]]) -> Result<GenMap, NoMemory>
+    ensures { IfOk result (λ map. AllByRecursion (λ image. length image ≤ MOST_MAPPED_LETTERS) map) }
+{
+    let mut images = Words::new(alloc);
+    for list in lists {
+        let image = Word::from_letters(alloc, list)?;
+        if image.letters().len() > MOST_MAPPED_LETTERS {
+            return Err(AllocError);
+        }
+        images.push(image)?;
+    }
+    Ok(GenMap::new(images))
+}
+
+#[test]
+fn images_are_reduced(rt: HostRuntime) -> Result<(), Fail> {
+    let alloc = rt.alloc();
+    let map = map_of(alloc, &[&[A, B], &[B]])?;
+    let word = Word::from_letters(alloc, &[A, B.inverted()])?;
+    assert_eq!(rt; map.images().len(), 2);
+    assert!(rt; is_over(2, &word));
+    assert!(rt; image(alloc, &map, &word)?.letters().len() == 1);
+    assert_eq!(rt; image_length(&map, &word), 3);
     Ok(())
 }

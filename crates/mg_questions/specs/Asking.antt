@@ -1,13 +1,17 @@
--- The Asks of questions.
-use Rattle.std.specs.Prelude.{◌≡◌, ℕ, ℤ, ◌≤◌, List, [], ◌∷◌, ◌++◌, length}
-use Rattle.std.specs.List.{AllByRecursion}
-use Rattle.mg_words.specs.Word.{IsOver, IsReduced, inv}
-use Rattle.mg_words.specs.Chain.{FreelyEqual}
-use Rattle.mg_present.specs.Presentation.{Group}
+-- What questions may name, and their Asks.
+use Rattle.std.specs.Prelude.{◌≡◌, ℕ, ℤ, ◌<◌, ◌≤◌, List, [], length, slice_index_or}
+use Rattle.std.specs.List.{AllByRecursion, AllZip}
+use Rattle.mg_words.specs.Word.{IsOver, IsReduced}
+use Rattle.mg_words.specs.Reduction.{IsFormOf}
+use Rattle.mg_present.specs.Presentation.{IsPresented}
 use Rattle.mg_present.specs.Ask.{Inquiry}
+use Rattle.mg_present.specs.declared.ask.TheConstants.{MOST_SUBGROUP_WORDS, MOST_GOALS}
 use Rattle.mg_questions.specs.declared.question.Question.{Question}
 use Rattle.mg_questions.specs.declared.question.Question.TheVariants.{WordIsOne, WordsEqual, InSubgroup, Trivial, Abelian, Central, Normal, Extends, Onto, InKernel}
-use Rattle.mg_questions.specs.declared.question.TheConstants.{MOST_WORD_LETTERS}
+use Rattle.mg_questions.specs.declared.limits.AskFault.{AskFault}
+use Rattle.mg_questions.specs.declared.limits.AskFault.TheVariants.{TooManyGoals, GoalTooLong, NoMemory}
+use Rattle.mg_questions.specs.declared.question.TheConstants.{MOST_WORD_LETTERS, MOST_GOAL_LETTERS}
+use Rattle.mg_questions.specs.Goals.{group_of, subgroup_of, goals_of}
 
 -- a word that a question may name
 pub record IsGiven (generators : ℕ) (w : List ℤ) : Type 0 where
@@ -18,9 +22,10 @@ pub record IsGiven (generators : ℕ) (w : List ℤ) : Type 0 where
 -- a list of words that a question may name, for a subgroup or as images
 pub record AreGiven (generators : ℕ) (words : List (List ℤ)) : Type 0 where
   pub each : AllByRecursion (IsGiven generators) words
-  pub count : length words ≤ 64
+  pub count : length words ≤ MOST_SUBGROUP_WORDS
 
--- the words that a question names are words over the generators of their group
+-- the words that a question names are words over the generators of their group, and each letter that
+-- is mapped has an image
 abbrev pub IsFit : Question → Type 0
 IsFit (WordIsOne group word) = IsGiven group.generators word.letters
 IsFit (WordsEqual group left right) = IsGiven group.generators left.letters × IsGiven group.generators right.letters
@@ -29,34 +34,36 @@ IsFit (Trivial group) = Unit {0}
 IsFit (Abelian group) = Unit {0}
 IsFit (Central group word) = IsGiven group.generators word.letters
 IsFit (Normal group subgroup) = AreGiven group.generators subgroup
-IsFit (Extends source target map) = AreGiven target.generators map × source.generators ≤ length map
+IsFit (Extends source target map) = IsPresented source × AreGiven target.generators map × source.generators ≤ length map
 IsFit (Onto target map) = AreGiven target.generators map
 IsFit (InKernel target map word) = AreGiven target.generators map × IsGiven (length map) word.letters
 
--- goal is the freely reduced form of w, over any generators that w is over
-pub record IsFormOf (w goal : List ℤ) : Type 0 where
-  pub reduced : IsReduced goal
-  pub over : (m : ℕ) → IsOver m w → IsOver m goal
-  pub equal : (m : ℕ) → IsOver m w → FreelyEqual m w goal
+-- the Ask of a question: its group and its subgroup words, and the freely reduced forms of its goals, in order
+pub record IsAskOf (question : Question) (ask : Inquiry) : Type 0 where
+  pub group : ask.group ≡ group_of question
+  pub subgroup : ask.subgroup ≡ subgroup_of question
+  pub goals : AllZip IsFormOf (goals_of question) ask.goals
 
--- asks of the group, without subgroup words, one goal alone: the freely reduced form of w
-pub record AsksOne (group : Group) (w : List ℤ) (ask : Inquiry) : Type 0 where
-  pub goal : List ℤ
-  pub reduced : IsReduced goal
-  pub equal : FreelyEqual group.generators w goal
-  pub of_group : ask.group ≡ group
-  pub no_subgroup : ask.subgroup ≡ []
-  pub one_goal : ask.goals ≡ goal ∷ []
+-- an Ask may have these goals
+pub record AreAllowed (goals : List (List ℤ)) : Type 0 where
+  pub few : length goals ≤ MOST_GOALS
+  pub short : AllByRecursion (λ goal. length goal ≤ MOST_GOAL_LETTERS) goals
 
--- the Ask of a question; of the first two kinds alone is it stated here
-abbrev pub IsAskOf : Question → Inquiry → Type 0
-IsAskOf (WordIsOne group word) ask = AsksOne group word.letters ask
-IsAskOf (WordsEqual group left right) ask = AsksOne group (left.letters ++ inv right.letters) ask
-IsAskOf (InSubgroup group subgroup word) ask = ⊥
-IsAskOf (Trivial group) ask = ⊥
-IsAskOf (Abelian group) ask = ⊥
-IsAskOf (Central group word) ask = ⊥
-IsAskOf (Normal group subgroup) ask = ⊥
-IsAskOf (Extends source target map) ask = ⊥
-IsAskOf (Onto target map) ask = ⊥
-IsAskOf (InKernel target map word) ask = ⊥
+-- there are so many goals, more than an Ask may have
+pub record AreTooMany (goals : List (List ℤ)) (count : ℕ) : Type 0 where
+  pub all : count ≡ length goals
+  pub many : MOST_GOALS < count
+
+-- the goals are not too many, and the first that is too long, from 0, has so many letters
+pub record IsFirstTooLong (goals : List (List ℤ)) (goal letters : ℕ) : Type 0 where
+  pub few : length goals ≤ MOST_GOALS
+  pub there : goal < length goals
+  pub written : letters ≡ length (slice_index_or goals goal [])
+  pub long : MOST_GOAL_LETTERS < letters
+  pub first : (earlier : ℕ) → earlier < goal → length (slice_index_or goals earlier []) ≤ MOST_GOAL_LETTERS
+
+-- why an Ask may not have these goals
+abbrev pub IsRefused : List (List ℤ) → AskFault → Type 0
+IsRefused goals (TooManyGoals count) = AreTooMany goals count
+IsRefused goals (GoalTooLong goal letters) = IsFirstTooLong goals goal letters
+IsRefused goals NoMemory = ⊥

@@ -1,2 +1,4 @@
 pub mod Meaning
+pub mod Goals
 pub mod Asking
+pub mod Content

@@ -1,87 +1,45 @@
 //! The Asks of questions.
-ghost use Rattle.std.specs.Prelude.{◌≡◌, ◌++◌, IfOk, IfErr};
-ghost use Rattle.mg_words.specs.Word.{IsOver, inv};
-ghost use Rattle.mg_questions.specs.Meaning.{IsWordQuestion};
-ghost use Rattle.mg_questions.specs.Asking.{AsksOne, IsAskOf, IsFit, IsFormOf};
+ghost use Rattle.std.specs.Prelude.{◌≡◌, ℕ, ◌↔◌, IfOk};
+ghost use Rattle.mg_questions.specs.Goals.{goals_of};
+ghost use Rattle.mg_questions.specs.Asking.{AreTooMany, IsAskOf, IsFirstTooLong, IsFit};
 
+use crate::goals::{asked_goals, asked_group, asked_subgroup};
+use crate::limits::{AskFault, refusal};
 use crate::question::Question;
-use mg_present::{Ask, Presentation};
-use mg_words::{NoMemory, Word, Words, concat, inverse, reduce};
+use mg_present::Ask;
 use std::alloc::Global;
-use thiserror::Error;
 
-/// Why there is no Ask of a question.
-#[derive(Clone, Copy, Debug, PartialEq, Eq, Error)]
-pub enum AskFault {
-    /// The Ask would have more goals than an Ask may have.
-    #[error("an ask of {count} goals is too large")]
-    TooManyGoals {
-        /// How many goals it would have.
-        count: u64,
-    },
-    /// A goal, written out, is too long.
-    #[error("goal {goal} of {length} letters is too long")]
-    GoalTooLong {
-        /// The place of the first such goal, from 0.
-        goal: u32,
-        /// Its length before it is reduced.
-        length: u64,
-    },
-    /// Want of memory.
-    #[error("no memory")]
-    NoMemory,
-}
-
-impl From<NoMemory> for AskFault {
-    ghost use Rattle.mg_questions.specs.declared.asking.AskFault.TheVariants.{NoMemory};
-
-    ghost from_gives = { λ _ fault. fault ≡ NoMemory };
-
-    fn from(_: NoMemory) -> AskFault {
-        AskFault::NoMemory
-    }
-}
-
-/// The Ask of a question: for `w = 1` the one goal `w`, and for `u = v` the one goal `u v^-1`, each
-/// freely reduced. Other kinds of question have no Ask here yet. Of these two kinds an Ask never has
-/// too many goals or too long a goal, so want of memory is the only fault.
+/// The Ask of a question: a group, subgroup words, and goals, each freely reduced.
+///
+/// | question | subgroup words | goals |
+/// |---|---|---|
+/// | the word is one | none | the word |
+/// | two words are equal | none | `u v^-1` |
+/// | the word lies in the subgroup | its words | the word |
+/// | trivial | none | each generator |
+/// | abelian | none | the commutator of each two generators, in order |
+/// | central | none | the commutator of the word with each generator |
+/// | normal | its words | `x h x^-1`, `x^-1 h x` for each generator x and each subgroup word h |
+/// | the map extends | none | the image of each relator of the source, in the target |
+/// | the map is onto | the images | each generator of the target |
+/// | the image is one | none | the image of the word, in the target |
+///
+/// It is refused where there would be more than [`mg_present::MOST_GOALS`] goals, and else where a goal
+/// is longer than [`crate::MOST_GOAL_LETTERS`] before it is reduced; the first such goal is named. The
+/// one other fault is want of memory.
 pub fn ask_of(alloc: Global, question: &Question) -> Result<Ask, AskFault>
-    requires kind { IsWordQuestion question.now }
-    requires words { IsFit question.now }
+    requires { IsFit question.now }
     ensures ask { IfOk result (λ ask. IsAskOf question.now ask) }
-    ensures memory { IfErr result (λ fault. fault ≡ AskFault.NoMemory) }
+    ensures too_many { (count : ℕ) →
+        (result ≡ Err (AskFault.TooManyGoals count)) ↔ AreTooMany (goals_of question.now) count }
+    ensures too_long { (goal letters : ℕ) →
+        (result ≡ Err (AskFault.GoalTooLong goal letters)) ↔ IsFirstTooLong (goals_of question.now) goal letters }
 {
-    match question {
-        Question::WordIsOne { group, word } => Ok(one_goal(alloc, group, word)?),
-        Question::WordsEqual { group, left, right } => {
-            let word = quotient(alloc, left, right)?;
-            Ok(one_goal(alloc, group, &word)?)
-        }
-        _ => unreachable!(),
+    if let Some(fault) = refusal(question) {
+        return Err(fault);
     }
-}
-
-// The one word times the inverse of the other, written out.
-fn quotient(alloc: Global, left: &Word, right: &Word) -> Result<Word, NoMemory>
-    ensures { IfOk result (λ w. w.letters ≡ left.now.letters ++ inv right.now.letters) }
-{
-    let back = inverse(alloc, right)?;
-    concat(alloc, left, &back)
-}
-
-// Asks whether the word is one in the group.
-fn one_goal(alloc: Global, group: &Presentation, word: &Word) -> Result<Ask, NoMemory>
-    requires { IsOver group.now.generators word.now.letters }
-    ensures { IfOk result (λ ask. AsksOne group.now word.now.letters ask) }
-{
-    let mut goals = Words::new(alloc);
-    goals.push(goal_of(alloc, word)?)?;
-    Ok(Ask::new(group.copy(alloc)?, Words::new(alloc), goals))
-}
-
-// The goal that asks for the word: its freely reduced form.
-fn goal_of(alloc: Global, word: &Word) -> Result<Word, NoMemory>
-    ensures { IfOk result (λ goal. IsFormOf word.now.letters goal.letters) }
-{
-    reduce(alloc, word)
+    let group = asked_group(question).copy(alloc)?;
+    let subgroup = asked_subgroup(alloc, question)?;
+    let goals = asked_goals(alloc, question)?;
+    Ok(Ask::new(group, subgroup, goals))
 }

@@ -1,12 +1,12 @@
 -- A lexeme more adds events behind those that were there.
-use Rattle.std.proofs.Common.{◌≡◌, ◌≢◌, ℕ, zero, suc, ◌+◌, ◌<◌, ◌≤◌, Bool, true, false, List, [], ◌∷◌, ◌++◌, length, Option, Some, None, IfSome, refl, sym, ap, subst, ◌∙◌, arith, append_assoc, append-nil, length-append, add-zero}
+use Rattle.std.proofs.Common.{◌≡◌, ◌≢◌, ℕ, zero, suc, ◌+◌, ◌<◌, ◌≤◌, Bool, true, false, List, [], ◌∷◌, ◌++◌, length, IfSome, refl, sym, ap, subst, ◌∙◌, arith, append_assoc, append-nil, length-append, add-zero}
 use Rattle.std.specs.List.{AllByRecursion}
 use Rattle.mg_lex.specs.declared.mark.Mark.TheVariants as mark
 use Rattle.mg_terms.specs.declared.lexeme.Lexeme.{Lexeme}
 use Rattle.mg_terms.specs.declared.lexeme.Lexeme.TheVariants as lexeme
-use Rattle.mg_terms.specs.Word.{Base, name, one, round, commutator, Factor, bare, power, Word, single, times, minus_lexemes, base_lexemes, factor_lexemes, word_lexemes, base_letters, factor_letters, word_letters}
-use Rattle.mg_terms.specs.Event.{Event, opens, ends, part, base_events, factor_events, word_events}
-use Rattle.mg_terms.specs.Reading.{Before, none, after, Opened, in_round, in_left, in_right, Frame, frame, Stand, front, behind, caret, minus, whole, State, state, joined, begin_step, round_step, comma_step, square_step, whole_step, number_step, step, before_lexemes, frames_lexemes, stand_lexemes, state_lexemes, closed, closed_state, number_count, depth, before_events, opened_events, frames_events, stand_events, state_events}
+use Rattle.mg_terms.specs.Word.{Base, name, one, round, commutator, Factor, bare, power, Word, minus_lexemes, base_lexemes, factor_lexemes, word_lexemes}
+use Rattle.mg_terms.specs.Event.{Event, opens, ends, base_end, factor_end, word_end, factor_events, word_events}
+use Rattle.mg_terms.specs.Reading.{Before, none, after, in_round, in_left, in_right, Frame, frame, front, behind, caret, minus, whole, State, state, joined, begin_step, round_step, comma_step, square_step, whole_step, number_step, step, before_lexemes, frames_lexemes, state_lexemes, closed_state, number_count, depth, before_events, frames_events, state_events}
 use Rattle.mg_terms.proofs.Machine.{joined_lexemes}
 
 -- the event comes with the lexeme at place k or later
@@ -21,8 +21,8 @@ pub record Adds (known : List Event) (k : ℕ) (events : List Event) : Type 0 wh
   pub later : AllByRecursion (IsFresh k) fresh
 
 joined_events : (k d : ℕ) (before : Before) (f : Factor) →
-    word_events k d (joined before f) ≡ before_events k d before ++ (factor_events (k + length (before_lexemes before)) d f ++ part k (word_lexemes (joined before f)) (word_letters (joined before f)) ∷ [])
-joined_events k d none f = ap (λ j. factor_events j d f ++ part k (factor_lexemes f) (factor_letters f) ∷ []) (sym (add-zero k))
+    word_events k d (joined before f) ≡ before_events k d before ++ (factor_events (k + length (before_lexemes before)) d f ++ word_end k (joined before f) ∷ [])
+joined_events k d none f = ap (λ j. factor_events j d f ++ word_end k (joined none f) ∷ []) (sym (add-zero k))
 joined_events k d (after w star) f = refl
 
 -- what is known, and how much is read, before a factor and behind a word
@@ -36,10 +36,10 @@ front_count fs before = length (state_lexemes (state fs (front before)))
 abbrev pub front_place : List Frame → Before → ℕ
 front_place fs before = length (frames_lexemes fs) + length (before_lexemes before)
 
-pub name_added : (fs : List Frame) (before : Before) → state_events (state fs (behind before name)) ≡ front_known fs before ++ part (front_place fs before) (base_lexemes name) 1 ∷ []
+pub name_added : (fs : List Frame) (before : Before) → state_events (state fs (behind before name)) ≡ front_known fs before ++ base_end (front_place fs before) name ∷ []
 name_added fs before = simp append_assoc
 
-pub one_added : (fs : List Frame) (before : Before) → state_events (state fs (behind before one)) ≡ front_known fs before ++ part (front_place fs before) (base_lexemes one) 0 ∷ []
+pub one_added : (fs : List Frame) (before : Before) → state_events (state fs (behind before one)) ≡ front_known fs before ++ base_end (front_place fs before) one ∷ []
 one_added fs before = simp append_assoc
 
 pub round_opened : (fs : List Frame) (before : Before) → state_events (state (frame before in_round ∷ fs) (front none)) ≡ front_known fs before ++ opens (front_place fs before) (depth fs + 1) ∷ []
@@ -50,12 +50,12 @@ square_opened fs before = simp (append_assoc, append-nil)
 
 begin_adds : (fs : List Frame) (before : Before) (x : Lexeme) → IfSome (begin_step fs before x) (λ t. Adds (front_known fs before) (front_count fs before) (state_events t))
 begin_adds fs before lexeme.Name = record {
-  fresh = part (front_place fs before) (base_lexemes name) 1 ∷ [];
+  fresh = base_end (front_place fs before) name ∷ [];
   all = name_added fs before;
   later = (omega (arith, length-append (frames_lexemes fs) (before_lexemes before)), tt);
 }
 begin_adds fs before (lexeme.Number (suc zero)) = record {
-  fresh = part (front_place fs before) (base_lexemes one) 0 ∷ [];
+  fresh = base_end (front_place fs before) one ∷ [];
   all = one_added fs before;
   later = (omega (arith, length-append (frames_lexemes fs) (before_lexemes before)), tt);
 }
@@ -78,17 +78,17 @@ abbrev pub whole_count : List Frame → Word → ℕ
 whole_count fs w = length (state_lexemes (state fs (whole w)))
 
 pub round_added : (fs : List Frame) (before : Before) (w : Word) →
-    state_events (state fs (behind before (round w))) ≡ whole_known (frame before in_round ∷ fs) w ++ part (front_place fs before) (base_lexemes (round w)) (word_letters w) ∷ []
+    state_events (state fs (behind before (round w))) ≡ whole_known (frame before in_round ∷ fs) w ++ base_end (front_place fs before) (round w) ∷ []
 round_added fs before w =
     let k = length (frames_lexemes fs) in
     let j = front_place fs before in
     let place : length (frames_lexemes (frame before in_round ∷ fs)) ≡ j + 1 = simp length-append (omega arith) in
-    ap (λ i. frames_events fs ++ (before_events k (depth fs) before ++ (opens j (depth fs + 1) ∷ (word_events i (depth fs + 1) w ++ part j (base_lexemes (round w)) (word_letters w) ∷ [])))) (sym place)
+    ap (λ i. frames_events fs ++ (before_events k (depth fs) before ++ (opens j (depth fs + 1) ∷ (word_events i (depth fs + 1) w ++ base_end j (round w) ∷ [])))) (sym place)
     ∙ simp append_assoc
 
 round_adds : (fs : List Frame) (w : Word) → IfSome (round_step fs w) (λ t. Adds (whole_known fs w) (whole_count fs w) (state_events t))
 round_adds (frame before in_round ∷ fs) w = record {
-  fresh = part (front_place fs before) (base_lexemes (round w)) (word_letters w) ∷ [];
+  fresh = base_end (front_place fs before) (round w) ∷ [];
   all = round_added fs before w;
   later = (simp length-append (omega arith), tt);
 }
@@ -112,17 +112,17 @@ comma_adds (frame before in_left ∷ fs) w = record {
 comma_adds _ w = tt
 
 pub square_added : (fs : List Frame) (before : Before) (u w : Word) →
-    state_events (state fs (behind before (commutator u w))) ≡ whole_known (frame before (in_right u) ∷ fs) w ++ part (front_place fs before) (base_lexemes (commutator u w)) (base_letters (commutator u w)) ∷ []
+    state_events (state fs (behind before (commutator u w))) ≡ whole_known (frame before (in_right u) ∷ fs) w ++ base_end (front_place fs before) (commutator u w) ∷ []
 square_added fs before u w =
     let k = length (frames_lexemes fs) in
     let j = front_place fs before in
     let place : length (frames_lexemes (frame before (in_right u) ∷ fs)) ≡ j + 1 + length (word_lexemes u) + 1 = simp length-append (omega arith) in
-    ap (λ i. frames_events fs ++ (before_events k (depth fs) before ++ (opens j (depth fs + 1) ∷ (word_events (j + 1) (depth fs + 1) u ++ (word_events i (depth fs + 1) w ++ part j (base_lexemes (commutator u w)) (base_letters (commutator u w)) ∷ []))))) (sym place)
+    ap (λ i. frames_events fs ++ (before_events k (depth fs) before ++ (opens j (depth fs + 1) ∷ (word_events (j + 1) (depth fs + 1) u ++ (word_events i (depth fs + 1) w ++ base_end j (commutator u w) ∷ []))))) (sym place)
     ∙ simp append_assoc
 
 square_adds : (fs : List Frame) (w : Word) → IfSome (square_step fs w) (λ t. Adds (whole_known fs w) (whole_count fs w) (state_events t))
 square_adds (frame before (in_right u) ∷ fs) w = record {
-  fresh = part (front_place fs before) (base_lexemes (commutator u w)) (base_letters (commutator u w)) ∷ [];
+  fresh = base_end (front_place fs before) (commutator u w) ∷ [];
   all = square_added fs before u w;
   later = (simp length-append (omega arith), tt);
 }
@@ -144,7 +144,7 @@ whole_adds fs w x = begin_adds_after fs w x
 pub number_added : (fs : List Frame) (before : Before) (b : Base) (negative : Bool) (n : ℕ) →
     let f : Factor = power b negative n in
     let w : Word = joined before f in
-    state_events (state fs (whole w)) ≡ state_events (state fs (behind before b)) ++ part (front_place fs before) (factor_lexemes f) (factor_letters f) ∷ part (length (frames_lexemes fs)) (word_lexemes w) (word_letters w) ∷ []
+    state_events (state fs (whole w)) ≡ state_events (state fs (behind before b)) ++ factor_end (front_place fs before) f ∷ word_end (length (frames_lexemes fs)) w ∷ []
 number_added fs before b negative n =
     ap (λ es. frames_events fs ++ es) (joined_events (length (frames_lexemes fs)) (depth fs) before (power b negative n)) ∙ simp append_assoc
 
@@ -165,7 +165,7 @@ number_adds fs before b negative (lexeme.Number n) =
     let f : Factor = power b negative n in
     let w : Word = joined before f in
     record {
-      fresh = part (front_place fs before) (factor_lexemes f) (factor_letters f) ∷ part (length (frames_lexemes fs)) (word_lexemes w) (word_letters w) ∷ [];
+      fresh = factor_end (front_place fs before) f ∷ word_end (length (frames_lexemes fs)) w ∷ [];
       all = number_added fs before b negative n;
       later = (omega (arith, factor_length fs before b negative n), (omega (arith, number_length fs before b negative n), tt));
     }
@@ -174,7 +174,7 @@ number_adds fs before b negative _ = tt
 -- what closing a base adds
 abbrev pub closing_events : State → List Event
 closing_events (state fs (behind before b)) =
-    part (length (frames_lexemes fs)) (word_lexemes (joined before (bare b))) (word_letters (joined before (bare b))) ∷ []
+    word_end (length (frames_lexemes fs)) (joined before (bare b)) ∷ []
 closing_events _ = []
 
 pub closed_adds : (s : State) → state_events (closed_state s) ≡ state_events s ++ closing_events s

@@ -1,12 +1,12 @@
 -- What can be read begins a word, and what begins a word can be read.
-use Rattle.std.proofs.Common.{◌≡◌, ◌≢◌, ◌⊎◌, inl, inr, ⊎_elim, ℕ, zero, suc, Bool, true, false, List, [], ◌∷◌, ◌++◌, Option, Some, None, option_and_then, refl, sym, ap, subst, ◌∙◌, append_assoc, append-nil}
+use Rattle.std.proofs.Common.{◌≡◌, ◌⊎◌, inl, inr, ⊎_elim, zero, suc, true, false, List, [], ◌∷◌, ◌++◌, Option, Some, None, option_and_then, refl, sym, ap, subst, ◌∙◌, append_assoc, append-nil}
 use Rattle.mg_lex.specs.declared.mark.Mark.TheVariants as mark
 use Rattle.mg_terms.specs.declared.lexeme.Lexeme.{Lexeme}
 use Rattle.mg_terms.specs.declared.lexeme.Lexeme.TheVariants as lexeme
-use Rattle.mg_terms.specs.Word.{Base, name, one, round, commutator, Factor, bare, power, Word, single, times, word_lexemes}
+use Rattle.mg_terms.specs.Word.{name, one, round, commutator, Factor, bare, power, Word, single, times, word_lexemes}
 use Rattle.mg_terms.specs.Beginning.{IsBeginning, GoesOn, EndsBefore, BeginsBase, EndsBare, CanFollow}
-use Rattle.mg_terms.specs.Reading.{Before, none, after, Opened, in_round, in_left, in_right, Frame, frame, Stand, front, behind, caret, minus, whole, State, state, joined, begin_step, whole_step, step, run, start, before_lexemes, frames_lexemes, stand_lexemes, state_lexemes, closed}
-use Rattle.mg_terms.proofs.Machine.{joined_lexemes, step_reads, if_some, ended, closed_ended, ended_step}
+use Rattle.mg_terms.specs.Reading.{Before, none, after, in_round, in_left, in_right, Frame, frame, Stand, front, behind, caret, minus, whole, State, state, joined, begin_step, whole_step, step, run, start, frames_lexemes, stand_lexemes, state_lexemes}
+use Rattle.mg_terms.proofs.Machine.{joined_lexemes, step_reads, if_some, ended, ended_step}
 use Rattle.mg_terms.proofs.Unique.{word_reads, one_word}
 
 -- a chain that gives a value, link by link

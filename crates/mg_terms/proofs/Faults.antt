@@ -1,5 +1,5 @@
 -- The first cause that stands in a list, by where reading comes to.
-use Rattle.std.proofs.Common.{◌≡◌, ◌≢◌, ◌⊎◌, inl, inr, ⊎_elim, ℕ, suc, ◌+◌, ◌-◌, ◌<◌, ◌≤◌, List, [], ◌∷◌, ◌++◌, length, take, get_or, Option, Some, None, refl, sym, ap, subst, ◌∙◌, arith, append_assoc, append-nil, length-append}
+use Rattle.std.proofs.Common.{◌≡◌, ◌⊎◌, inl, inr, ⊎_elim, ℕ, suc, ◌+◌, ◌-◌, ◌<◌, ◌≤◌, List, [], ◌∷◌, ◌++◌, length, take, get_or, Some, refl, sym, ap, subst, ◌∙◌, arith, append_assoc, length-append}
 use Rattle.std.specs.List.{AllByRecursion, Contains}
 use Rattle.std.proofs.Math.Seq.{take-append_seam}
 use Rattle.std.proofs.lemmas.Bool.{cases_lt}
@@ -7,19 +7,15 @@ use Rattle.std.proofs.lemmas.List.Elements.{All-from_recursion, All-contains, Co
 use Rattle.mg_lex.specs.declared.refusal.Cause.{Cause}
 use Rattle.mg_lex.specs.declared.refusal.Cause.TheVariants as cause
 use Rattle.mg_lex.specs.Cause.{cause_number}
-use Rattle.mg_lex.specs.declared.mark.Mark.TheVariants as mark
 use Rattle.mg_terms.specs.declared.lexeme.Lexeme.{Lexeme}
-use Rattle.mg_terms.specs.declared.lexeme.Lexeme.TheVariants as lexeme
-use Rattle.mg_terms.specs.declared.limits.TheConstants.{WORD_LIMIT, DEPTH_LIMIT}
 use Rattle.mg_terms.specs.Word.{Base, bare, Word, word_lexemes, word_letters}
 use Rattle.mg_terms.specs.Event.{Event, opens, ends, word_events, IsWithin, AreWithin}
-use Rattle.mg_terms.specs.Beginning.{IsBeginning, IsWord}
 use Rattle.mg_terms.specs.Cause.{IsReach, Agrees, Shows, IsShown, Stands, IsFaultless, IsFirstCause}
-use Rattle.mg_terms.specs.Reading.{Before, Opened, in_round, in_left, in_right, Frame, frame, Stand, behind, whole, State, state, joined, step, run, start, frames_lexemes, state_lexemes, closed, closed_state, state_events, StopsAt, NoCaret, ClosesLong, TakesLong, TakesDeep}
+use Rattle.mg_terms.specs.Reading.{Before, in_round, in_left, in_right, Frame, frame, behind, whole, State, state, joined, step, run, start, frames_lexemes, state_lexemes, closed_state, state_events, StopsAt, NoCaret, ClosesLong, TakesLong, TakesDeep}
 use Rattle.mg_terms.proofs.Machine.{ended, closed_ended}
 use Rattle.mg_terms.proofs.Unique.{word_reads}
-use Rattle.mg_terms.proofs.Beginnings.{run_reads, read_more, completed, completing, completed_lexemes, closing}
-use Rattle.mg_terms.proofs.Adding.{IsFresh, closing_events, closed_adds, closed_lexemes}
+use Rattle.mg_terms.proofs.Beginnings.{run_reads, read_more, completed, completing, completed_lexemes}
+use Rattle.mg_terms.proofs.Adding.{IsFresh, closed_adds, closed_lexemes}
 use Rattle.mg_terms.proofs.Runs.{IsLate, OrFresh, OrLate, late_events, fresh_events, rest_runs, word_grows, word_adds, step_count}
 use Rattle.mg_terms.proofs.Reaches.{one_reach, stop_reach, reach_of, read_shared, reach_front, agrees_front}
 
@@ -100,9 +96,9 @@ whole_lexemes : (front : List Lexeme) (s : State) (w : Word) → run start front
 whole_lexemes front s w reads at_end =
     ap state_lexemes (sym at_end) ∙ closed_lexemes s ∙ run_reads front start s reads
 
-pub word_end : (front ys : List Lexeme) (s : State) (w : Word) → run start front ≡ Some s → StopsAt s ys → AreWithin (state_events (closed_state s)) → closed_state s ≡ state [] (whole w) →
+pub word_stops : (front ys : List Lexeme) (s : State) (w : Word) → run start front ≡ Some s → StopsAt s ys → AreWithin (state_events (closed_state s)) → closed_state s ≡ state [] (whole w) →
     (word_lexemes w ≡ front) × IsReach (front ++ ys) (length front) × IsFaultless (front ++ ys)
-word_end front ys s w reads stops within at_end =
+word_stops front ys s w reads stops within at_end =
     let lexemes = whole_lexemes front s w reads at_end in
     let reach = stop_reach front ys s reads stops in (
       lexemes,

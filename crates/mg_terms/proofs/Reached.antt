@@ -1,7 +1,6 @@
 -- What the loop over the lexemes keeps, and what follows where it ends.
-use Rattle.std.proofs.Common.{◌≡◌, ◌≢◌, ◌⊎◌, inl, inr, ⊎_elim, ℕ, ◌+◌, ◌<◌, ◌≤◌, Bool, true, false, List, [], ◌∷◌, ◌++◌, length, take, drop, Result, Ok, Err, Some, None, get_or, refl, sym, ap, subst, ◌∙◌, arith}
-use Rattle.std.proofs.lemmas.List.{take-append-drop, length-take-le, take_more, drop_more, drop_all, take_all}
-use Rattle.mg_lex.specs.declared.refusal.Cause.{Cause}
+use Rattle.std.proofs.Common.{◌≡◌, inl, inr, ⊎_elim, ℕ, ◌+◌, ◌<◌, ◌≤◌, Bool, true, false, List, [], ◌∷◌, ◌++◌, length, take, drop, Result, Ok, Err, Some, None, get_or, refl, sym, ap, subst, ◌∙◌, arith}
+use Rattle.std.proofs.lemmas.List.{take-append-drop, length-take-le, take_more, drop_more, drop_all}
 use Rattle.mg_lex.specs.declared.refusal.Cause.TheVariants as cause
 use Rattle.mg_terms.specs.declared.lexeme.Lexeme.{Lexeme}
 use Rattle.mg_terms.specs.declared.lexeme.Lexeme.TheVariants as lexeme
@@ -9,15 +8,15 @@ use Rattle.mg_terms.specs.declared.limits.TheConstants.{WORD_LIMIT}
 use Rattle.mg_terms.specs.declared.reader.Position.TheVariants as position
 use Rattle.mg_terms.specs.declared.reader.Reader.{Reader}
 use Rattle.mg_terms.specs.declared.fault.WordFault.{WordFault}
-use Rattle.mg_terms.specs.Word.{Word, word_lexemes, word_letters}
+use Rattle.mg_terms.specs.Word.{Word}
 use Rattle.mg_terms.specs.Cause.{IsReach, IsFaultless, IsFirstCause}
 use Rattle.mg_terms.specs.Read.{IsRead}
 use Rattle.mg_terms.specs.Event.{AreWithin}
-use Rattle.mg_terms.specs.Reading.{Stand, behind, front, caret, minus, whole, State, state, step, run, start, state_lexemes, closed_state, state_events, StopsAt, NoCaret, ClosesLong, TakesLong, TakesDeep}
+use Rattle.mg_terms.specs.Reading.{behind, front, caret, minus, whole, State, state, step, run, start, closed_state, state_events, StopsAt, NoCaret, ClosesLong, TakesLong, TakesDeep}
 use Rattle.mg_terms.specs.Reader.{kept, IsReady, Takes, Steps, IsWhole, Ends, HasStopped}
 use Rattle.mg_terms.proofs.Beginnings.{read_more}
 use Rattle.mg_terms.proofs.Adding.{closed_lexemes}
-use Rattle.mg_terms.proofs.Faults.{count_read, word_end, unexpected_first, closes_long, takes_long, takes_deep}
+use Rattle.mg_terms.proofs.Faults.{count_read, word_stops, unexpected_first, closes_long, takes_long, takes_deep}
 use Rattle.mg_terms.proofs.Taking.{behind_some, whole_within}
 
 -- the reader has read these lexemes, within the limits
@@ -135,7 +134,7 @@ stopped_word xs count letters r has word =
     let w = word.0 in
     let same = seen_closed xs count r has in
     let whole_list = take-append-drop count xs in
-    let h = word_end (take count xs) (drop count xs) has.reached w has.runs has.stops (subst (λ s. AreWithin (state_events s)) same word.3) (sym same ∙ word.1) in
+    let h = word_stops (take count xs) (drop count xs) has.reached w has.runs has.stops (subst (λ s. AreWithin (state_events s)) same word.3) (sym same ∙ word.1) in
     let reach = subst (λ ys. IsReach ys (length (take count xs))) whole_list h.1 in
     let within = subst (λ s. AreWithin (state_events s)) word.1 word.3 in (
       record {

@@ -1,12 +1,12 @@
 -- The events of a word are those of a beginning of it, and then only such as come later.
-use Rattle.std.proofs.Common.{◌≡◌, ◌≢◌, ◌⊎◌, inl, inr, ⊎_elim, ℕ, ◌+◌, ◌<◌, ◌≤◌, List, [], ◌∷◌, ◌++◌, length, Option, Some, None, option_and_then, IfSome, refl, sym, ap, subst, ◌∙◌, arith, append_assoc, append-nil, length-append}
+use Rattle.std.proofs.Common.{◌≡◌, ◌⊎◌, inl, inr, ⊎_elim, ℕ, ◌+◌, ◌≤◌, List, [], ◌∷◌, ◌++◌, length, Some, option_and_then, sym, ap, subst, ◌∙◌, arith, append_assoc, append-nil, length-append}
 use Rattle.std.specs.List.{AllByRecursion}
 use Rattle.mg_lex.specs.declared.mark.Mark.TheVariants as mark
 use Rattle.mg_terms.specs.declared.lexeme.Lexeme.{Lexeme}
 use Rattle.mg_terms.specs.declared.lexeme.Lexeme.TheVariants as lexeme
 use Rattle.mg_terms.specs.Word.{bare, Word, word_lexemes}
 use Rattle.mg_terms.specs.Event.{Event, opens, ends, word_events}
-use Rattle.mg_terms.specs.Reading.{Frame, Stand, front, behind, caret, minus, whole, State, state, joined, step, run, start, frames_lexemes, state_lexemes, closed, closed_state, state_events, NoCaret}
+use Rattle.mg_terms.specs.Reading.{front, behind, caret, minus, whole, State, state, joined, step, run, start, frames_lexemes, state_lexemes, closed_state, state_events, NoCaret}
 use Rattle.mg_terms.proofs.Machine.{step_reads, if_some, ended, closed_ended}
 use Rattle.mg_terms.proofs.Unique.{word_reads}
 use Rattle.mg_terms.proofs.Beginnings.{chained, run_append}

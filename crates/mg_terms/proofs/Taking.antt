@@ -1,5 +1,5 @@
 -- What the reader keeps follows the states.
-use Rattle.std.proofs.Common.{◌≡◌, ◌≢◌, ◌⊎◌, inl, inr, ⊎_elim, ℕ, ◌+◌, ◌*◌, ◌<◌, ◌≤◌, Bool, true, false, IsTrue, List, [], ◌∷◌, ◌++◌, length, Option, Some, None, Result, Ok, Err, IfOk, IfErr, OnOk, refl, sym, ap, subst, ◌∙◌, arith, append_assoc, append-nil, length-append, ◌↔◌}
+use Rattle.std.proofs.Common.{◌≡◌, ◌≢◌, inl, inr, ⊎_elim, ℕ, ◌+◌, ◌*◌, ◌<◌, ◌≤◌, Bool, true, false, IsTrue, List, [], ◌∷◌, ◌++◌, length, Some, Result, Ok, Err, IfOk, IfErr, OnOk, refl, sym, ap, subst, ◌∙◌, arith, append-nil, length-append, ◌↔◌}
 use Rattle.std.specs.List.{AllByRecursion, Contains}
 use Rattle.std.proofs.lemmas.List.Elements.{Contains-push, Contains-append_right}
 use Rattle.mg_lex.specs.declared.refusal.Cause.TheVariants as cause
@@ -13,12 +13,12 @@ use Rattle.mg_terms.specs.declared.around.Bracket.TheVariants as bracket
 use Rattle.mg_terms.specs.declared.reader.Position.TheVariants as position
 use Rattle.mg_terms.specs.declared.reader.Reader.{Reader}
 use Rattle.mg_terms.specs.declared.fault.WordFault.{WordFault}
-use Rattle.mg_terms.specs.Word.{Base, name, one, round, commutator, Factor, bare, power, Word, single, times, star_lexemes, base_lexemes, factor_lexemes, word_lexemes, base_letters, factor_letters, word_letters}
-use Rattle.mg_terms.specs.Event.{Event, opens, ends, part, factor_events, word_events, IsWithin, AreWithin}
-use Rattle.mg_terms.specs.Reading.{Before, none, after, Opened, in_round, in_left, in_right, Frame, frame, Stand, front, behind, caret, minus, whole, State, state, joined, begin_step, round_step, square_step, whole_step, number_step, step, number_count, depth, frames_lexemes, before_lexemes, state_lexemes, frames_events, state_events, closed_state, TakesLong, TakesDeep}
-use Rattle.mg_terms.specs.Reader.{bracket_of, begun, before_letters, around, kept, Has, IsReady, Takes, Breaks, Brings, Steps, IsWhole, Ends}
+use Rattle.mg_terms.specs.Word.{Base, name, one, round, commutator, Factor, bare, power, Word, single, times, star_lexemes, base_lexemes, word_lexemes, base_letters, factor_letters, word_letters}
+use Rattle.mg_terms.specs.Event.{Event, opens, ends, base_end, factor_end, word_end, factor_events, word_events, IsWithin, AreWithin}
+use Rattle.mg_terms.specs.Reading.{Before, none, after, in_round, in_left, in_right, Frame, frame, front, behind, caret, minus, whole, State, state, joined, begin_step, round_step, square_step, whole_step, number_step, step, number_count, depth, frames_lexemes, before_lexemes, state_lexemes, frames_events, state_events, closed_state, TakesLong}
+use Rattle.mg_terms.specs.Reader.{begun, before_letters, around, kept, Has, IsReady, Takes, Breaks, Brings, Steps, IsWhole, Ends}
 use Rattle.mg_terms.proofs.Machine.{closed_step}
-use Rattle.mg_terms.proofs.Adding.{front_known, front_place, whole_known, closed_adds, closed_lexemes, one_added, round_added, square_added, number_added, number_length, factor_length}
+use Rattle.mg_terms.proofs.Adding.{front_known, front_place, whole_known, closed_adds, closed_lexemes, one_added, round_added, square_added, number_added, number_length}
 use Rattle.mg_terms.proofs.Runs.{all_append}
 
 all_right : (P : Event → Type 0) (xs ys : List Event) → AllByRecursion P (xs ++ ys) → AllByRecursion P ys
@@ -32,9 +32,9 @@ within_push es e all last = all_append IsWithin es (e ∷ []) all (last, tt)
 -- a word within the limits has no more letters than one may have
 pub letters_within : (k d : ℕ) (w : Word) → AreWithin (word_events k d w) → word_letters w ≤ WORD_LIMIT
 letters_within k d (single f) within =
-    (all_right IsWithin (factor_events k d f) (part k (word_lexemes (single f)) (word_letters (single f)) ∷ []) within).0
+    (all_right IsWithin (factor_events k d f) (word_end k (single f) ∷ []) within).0
 letters_within k d (times w star f) within =
-    let last : List Event = part k (word_lexemes (times w star f)) (word_letters (times w star f)) ∷ [] in
+    let last : List Event = word_end k (times w star f) ∷ [] in
     let middle = factor_events (k + length (word_lexemes w ++ star_lexemes star)) d f in
     (all_right IsWithin middle last (all_right IsWithin (word_events k d w) (middle ++ last) within)).0
 
@@ -54,7 +54,7 @@ one_taken fs before old has within = record {
   next = state fs (behind before one);
   takes = refl;
   keeps = cc;
-  within = subst AreWithin (sym (one_added fs before)) (within_push (front_known fs before) (part (front_place fs before) (base_lexemes one) 0) within (omega arith));
+  within = subst AreWithin (sym (one_added fs before)) (within_push (front_known fs before) (base_end (front_place fs before) one) within (omega arith));
 }
 
 -- a bracket is opened
@@ -107,7 +107,7 @@ round_taken (frame before in_round ∷ fs) w old new has is closes within =
       takes = refl;
       keeps = sym (closes (around fs) (begun fs (before_letters before)) has.0 ∙ ap (λ (n : ℕ). record { around = around fs; word = begun fs (before_letters before); position = position.Base n }) letters);
       within = subst AreWithin (sym (round_added fs before w))
-          (within_push (whole_known (frame before in_round ∷ fs) w) (part (front_place fs before) (base_lexemes (round w)) (word_letters w)) within (whole_within (frame before in_round ∷ fs) w within));
+          (within_push (whole_known (frame before in_round ∷ fs) w) (base_end (front_place fs before) (round w)) within (whole_within (frame before in_round ∷ fs) w within));
     }
 round_taken (frame before in_left ∷ fs) w old new has is closes within = absurd (let left = ap (λ b. b.bracket) has.1 in cc)
 round_taken (frame before (in_right u) ∷ fs) w old new has is closes within = absurd (let right = ap (λ b. b.bracket) has.1 in cc)
@@ -131,7 +131,7 @@ square_closed fs before u w old new letters has closes same short within = recor
   takes = refl;
   keeps = sym (closes (around fs) (begun fs (before_letters before)) has ∙ ap (λ (n : ℕ). record { around = around fs; word = begun fs (before_letters before); position = position.Base n }) same);
   within = subst AreWithin (sym (square_added fs before u w))
-      (within_push (whole_known (frame before (in_right u) ∷ fs) w) (part (front_place fs before) (base_lexemes (commutator u w)) (base_letters (commutator u w))) within (subst (λ n. n ≤ WORD_LIMIT) same short));
+      (within_push (whole_known (frame before (in_right u) ∷ fs) w) (base_end (front_place fs before) (commutator u w)) within (subst (λ n. n ≤ WORD_LIMIT) same short));
 }
 
 pub square_taken : (fs : List Frame) (w : Word) (old new : Reader) (left letters : ℕ) → Has old fs (word_letters w) → old.word.bracket ≡ bracket.Right left → letters ≡ 2 * (left + old.word.letters) → letters ≤ WORD_LIMIT → Closes old new letters → AreWithin (whole_known fs w) →
@@ -146,7 +146,7 @@ square_breaks : (fs : List Frame) (before : Before) (u w : Word) (place : ℕ) �
     TakesLong (square_step (frame before (in_right u) ∷ fs) w) place
 square_breaks fs before u w place here long =
     let letters = base_letters (commutator u w) in
-    let e = part (front_place fs before) (base_lexemes (commutator u w)) letters in
+    let e = base_end (front_place fs before) (commutator u w) in
     let read = simp length-append at here in
     let count : front_place fs before + length (base_lexemes (commutator u w)) ≡ place + 1 = simp length-append (omega arith) in
     record {
@@ -193,7 +193,7 @@ number_taken fs before b negative n base old new has same short grown within =
       takes = refl;
       keeps = cc;
       within = subst AreWithin (sym (number_added fs before b negative n))
-          (all_append IsWithin (state_events (state fs (behind before b))) (part (front_place fs before) (factor_lexemes f) (factor_letters f) ∷ part (length (frames_lexemes fs)) (word_lexemes w) (word_letters w) ∷ []) within (factor_short, (whole_short, tt)));
+          (all_append IsWithin (state_events (state fs (behind before b))) (factor_end (front_place fs before) f ∷ word_end (length (frames_lexemes fs)) w ∷ []) within (factor_short, (whole_short, tt)));
     }
 
 number_long : (fs : List Frame) (before : Before) (b : Base) (negative : Bool) (n place : ℕ) → number_count fs before b negative ≡ place → WORD_LIMIT < word_letters (joined before (power b negative n)) →
@@ -202,8 +202,8 @@ number_long fs before b negative n place here long =
     let f : Factor = power b negative n in
     let w : Word = joined before f in
     let known = state_events (state fs (behind before b)) in
-    let added : List Event = part (front_place fs before) (factor_lexemes f) (factor_letters f) ∷ part (length (frames_lexemes fs)) (word_lexemes w) (word_letters w) ∷ [] in
-    let e = part (length (frames_lexemes fs)) (word_lexemes w) (word_letters w) in
+    let added : List Event = factor_end (front_place fs before) f ∷ word_end (length (frames_lexemes fs)) w ∷ [] in
+    let e = word_end (length (frames_lexemes fs)) w in
     let last : Contains added e = (1, omega arith, refl) in
     let count : length (frames_lexemes fs) + length (word_lexemes w) ≡ place + 1 = number_length fs before b negative n ∙ ap (λ m. m + 1) here in
     record {
@@ -263,7 +263,7 @@ base_closed fs before b base old grown has same short grows within =
     let word_short : word_letters w ≤ WORD_LIMIT = omega arith in
     record {
       keeps = cc;
-      within = subst AreWithin (sym (closed_adds s)) (within_push (state_events s) (part (length (frames_lexemes fs)) (word_lexemes w) (word_letters w)) within word_short);
+      within = subst AreWithin (sym (closed_adds s)) (within_push (state_events s) (word_end (length (frames_lexemes fs)) w) within word_short);
     }
 
 pub closed_steps : (fs : List Frame) (before : Before) (b : Base) (x : Lexeme) (place : ℕ) (grown new : Reader) (result : Result Bool WordFault) → x ≢ lexeme.Mark mark.Caret → IsClosed fs before b grown →

@@ -1,9 +1,7 @@
 -- The grammar is unambiguous, and words are read greedily.
-use Rattle.std.proofs.Common.{◌≡◌, ◌≢◌, ◌⊎◌, inl, inr, ℕ, List, [], ◌∷◌, ◌++◌, Some, refl, sym, ap, subst, ◌∙◌, append_assoc, append-nil}
-use Rattle.mg_terms.specs.declared.lexeme.Lexeme.{Lexeme}
+use Rattle.std.proofs.Common.{◌≡◌, [], Some, sym, ap, ◌∙◌, append-nil}
 use Rattle.mg_terms.specs.Word.{Word, word_lexemes}
-use Rattle.mg_terms.specs.Beginning.{IsBeginning, EndsBefore}
-use Rattle.mg_terms.specs.Reading.{Stand, whole, State, state, step, run, start, closed}
+use Rattle.mg_terms.specs.Reading.{Stand, whole, State, state, run, start, closed}
 use Rattle.mg_terms.proofs.Machine.{ended, closed_ended, word_runs}
 
 -- a whole word is read to its end

@@ -1,5 +1,5 @@
 -- What the reader keeps of a state, and what its steps bring.
-use Rattle.std.specs.Prelude.{◌≡◌, ◌≢◌, ◌⊎◌, ℕ, ◌+◌, ◌≤◌, Bool, true, false, Option, Some, None, Result, Ok, Err, List, [], ◌∷◌, ◌++◌, length, take, drop}
+use Rattle.std.specs.Prelude.{◌≡◌, ◌≢◌, ◌⊎◌, ℕ, ◌≤◌, Bool, true, false, Option, Some, None, Result, Ok, Err, List, [], ◌∷◌, ◌++◌, length, take, drop}
 use Rattle.mg_lex.specs.declared.mark.Mark.TheVariants as mark
 use Rattle.mg_lex.specs.declared.refusal.Cause.TheVariants as cause
 use Rattle.mg_terms.specs.declared.lexeme.Lexeme.{Lexeme}
@@ -11,9 +11,9 @@ use Rattle.mg_terms.specs.declared.reader.Position.{Position}
 use Rattle.mg_terms.specs.declared.reader.Position.TheVariants as position
 use Rattle.mg_terms.specs.declared.reader.Reader.{Reader}
 use Rattle.mg_terms.specs.declared.fault.WordFault.{WordFault}
-use Rattle.mg_terms.specs.Word.{Base, Word, base_letters, word_letters}
+use Rattle.mg_terms.specs.Word.{Word, base_letters, word_letters}
 use Rattle.mg_terms.specs.Event.{Event, AreWithin}
-use Rattle.mg_terms.specs.Reading.{Before, none, after, Opened, in_round, in_left, in_right, Frame, frame, Stand, front, behind, caret, minus, whole, State, state, step, run, start, StopsAt, state_lexemes, closed_state, state_events, ClosesLong, TakesLong, TakesDeep}
+use Rattle.mg_terms.specs.Reading.{Before, none, after, in_round, in_left, in_right, Frame, frame, Stand, front, behind, caret, minus, whole, State, state, step, run, start, StopsAt, state_lexemes, closed_state, state_events, ClosesLong, TakesLong, TakesDeep}
 
 -- the bracket that the innermost word stands behind
 abbrev pub bracket_of : List Frame → Bracket

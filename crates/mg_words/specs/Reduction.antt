@@ -1,5 +1,13 @@
--- Multiplying a word by one letter with free reduction.
-use Rattle.std.specs.Prelude.{◌≡◌, ◌≢◌, ℤ, neg_ℤ, List, [], ◌∷◌, ◌++◌}
+-- Freely reduced forms, and multiplying a word by one letter with free reduction.
+use Rattle.std.specs.Prelude.{◌≡◌, ◌≢◌, ℕ, ℤ, neg_ℤ, List, [], ◌∷◌, ◌++◌}
+use Rattle.mg_words.specs.Word.{IsOver, IsReduced}
+use Rattle.mg_words.specs.Chain.{FreelyEqual}
+
+-- v is the freely reduced form of w, over any generators that w is over
+pub record IsFormOf (w v : List ℤ) : Type 0 where
+  pub reduced : IsReduced v
+  pub over : (m : ℕ) → IsOver m w → IsOver m v
+  pub equal : (m : ℕ) → IsOver m w → FreelyEqual m w v
 
 -- a letter takes away a last letter that is its inverse, and else is appended
 pub record PushesReduced (old : List ℤ) (x : ℤ) (new : List ℤ) : Type 0 where

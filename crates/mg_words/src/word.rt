@@ -1,5 +1,5 @@
 //! One word.
-ghost use Rattle.std.specs.Prelude.{◌≡◌, ℕ, ℤ, neg_ℤ, ◌+◌, ◌<◌, ◌≤◌, ◌↔◌, IsTrue, List, [], ◌∷◌, ◌++◌, IfOk, OnOk, length};
+ghost use Rattle.std.specs.Prelude.{◌≡◌, ℕ, ℤ, neg_ℤ, ◌+◌, ◌<◌, ◌≤◌, ◌↔◌, IsTrue, List, [], ◌∷◌, ◌++◌, IfOk, OnOk, OnErr, length};
 ghost use Rattle.std.proofs.Common.{rules};
 ghost use Rattle.std.specs.Ordering.{as_partial_cmp, eq_by_cmp};
 ghost use Rattle.std.specs.Cmp.{partial_order_from_own_ties};
@@ -78,19 +78,20 @@ impl Word {
         self.letters.clear();
     }
 
+    /// Appends letters.
+    pub fn push_all(&mut self, letters: &[Letter]) -> Result<(), NoMemory>
+        ensures ok { OnOk result (self.new.letters ≡ self.old.letters ++ letters.now) }
+        ensures err { OnErr result (self.new.letters ≡ self.old.letters) }
+    {
+        self.letters.extend_from_slice(letters)?;
+        Ok(())
+    }
+
     // The word of these letters.
     pub(crate) fn from_vec(letters: Vec<Letter>) -> Word
         ensures { result.letters ≡ letters.items }
     {
         Word { letters }
-    }
-
-    // Appends letters.
-    pub(crate) fn push_all(&mut self, letters: &[Letter]) -> Result<(), NoMemory>
-        ensures { OnOk result (self.new.letters ≡ self.old.letters ++ letters.now) }
-    {
-        self.letters.extend_from_slice(letters)?;
-        Ok(())
     }
 
     // Whether the last letter is the inverse of `x`.

@@ -53,7 +53,7 @@ module _ {R K G S : Type 0} (recording : Recording R K G) (searching : Searching
   uses search units facts spent (Full what count) false true fits once = omega arith
   uses search units facts spent (Full what count) false false fits once = omega arith
 
-units_of-append : {R : Type 0} (number : ℕ) (log more : List (Entry R)) → units_of number (log ++ more) ≡ units_of number log + units_of number more
+pub units_of-append : {R : Type 0} (number : ℕ) (log more : List (Entry R)) → units_of number (log ++ more) ≡ units_of number log + units_of number more
 units_of-append number [] more = omega arith
 units_of-append number (entry ∷ log) more = omega (arith, units_of-append number log more)
 
@@ -96,7 +96,7 @@ counts_then one two x y z a b =
       few = omega (arith, entries_of-append x.number one two, few, a.few);
     }
 
-apart_along : {S : Type 0} (xs ys : List (Row S)) → EachPair (λ x y. y.number ≡ x.number) xs ys → AreApart xs → AreApart ys
+pub apart_along : {S : Type 0} (xs ys : List (Row S)) → EachPair (λ x y. y.number ≡ x.number) xs ys → AreApart xs → AreApart ys
 apart_along [] [] r h = tt
 apart_along [] (y ∷ ys) r h = absurd r
 apart_along (x ∷ xs) [] r h = absurd r
@@ -105,7 +105,7 @@ apart_along {S} (x ∷ xs) (y ∷ ys) r h = (
   apart_along xs ys r.1 h.1,
 )
 
-others_apart : {S : Type 0} (xs : List (Row S)) (i : ℕ) (x : Row S) → AreApart xs → slice_get xs i ≡ Some x → Others (λ (v z : Row S). v.number ≢ z.number) xs i x
+pub others_apart : {S : Type 0} (xs : List (Row S)) (i : ℕ) (x : Row S) → AreApart xs → slice_get xs i ≡ Some x → Others (λ (v z : Row S). v.number ≢ z.number) xs i x
 others_apart [] i x h e = tt
 others_apart {S} (w ∷ ws) zero x h e =
     let same : w ≡ x = cc in

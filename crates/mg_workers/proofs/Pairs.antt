@@ -10,7 +10,7 @@ all_at P [] i x h e = absurd (cc)
 all_at P (y ∷ ys) zero x h e = let same : y ≡ x = cc in subst P same h.0
 all_at P (y ∷ ys) (suc i) x h e = all_at P ys i x h.1 e
 
-pub all_along : {X : Type 0} (Related : X → X → Type 0) (P Q : X → Type 0) → ((x y : X) → Related x y → P x → Q y) → (xs ys : List X) → EachPair Related xs ys → AllByRecursion P xs → AllByRecursion Q ys
+pub all_along : {X Y : Type 0} (Related : X → Y → Type 0) (P : X → Type 0) (Q : Y → Type 0) → ((x : X) (y : Y) → Related x y → P x → Q y) → (xs : List X) (ys : List Y) → EachPair Related xs ys → AllByRecursion P xs → AllByRecursion Q ys
 all_along Related P Q step [] [] r h = tt
 all_along Related P Q step [] (y ∷ ys) r h = absurd r
 all_along Related P Q step (x ∷ xs) [] r h = absurd r
@@ -20,7 +20,7 @@ pub pairs_same : {X : Type 0} (Related : X → X → Type 0) → (xs : List X) �
 pairs_same Related [] h = tt
 pairs_same Related (x ∷ xs) h = (h.0, pairs_same Related xs h.1)
 
-pub pairs_then : {X : Type 0} (A B C : X → X → Type 0) → ((x y z : X) → A x y → B y z → C x z) → (xs ys zs : List X) → EachPair A xs ys → EachPair B ys zs → EachPair C xs zs
+pub pairs_then : {X Y Z : Type 0} (A : X → Y → Type 0) (B : Y → Z → Type 0) (C : X → Z → Type 0) → ((x : X) (y : Y) (z : Z) → A x y → B y z → C x z) → (xs : List X) (ys : List Y) (zs : List Z) → EachPair A xs ys → EachPair B ys zs → EachPair C xs zs
 pairs_then A B C step [] [] [] a b = tt
 pairs_then A B C step [] [] (z ∷ zs) a b = absurd b
 pairs_then A B C step [] (y ∷ ys) zs a b = absurd a
@@ -28,7 +28,7 @@ pairs_then A B C step (x ∷ xs) [] zs a b = absurd a
 pairs_then A B C step (x ∷ xs) (y ∷ ys) [] a b = absurd b
 pairs_then A B C step (x ∷ xs) (y ∷ ys) (z ∷ zs) a b = (step x y z a.0 b.0, pairs_then A B C step xs ys zs a.1 b.1)
 
-pub pairs_imply : {X : Type 0} (A C : X → X → Type 0) → ((x y : X) → A x y → C x y) → (xs ys : List X) → EachPair A xs ys → EachPair C xs ys
+pub pairs_imply : {X Y : Type 0} (A C : X → Y → Type 0) → ((x : X) (y : Y) → A x y → C x y) → (xs : List X) (ys : List Y) → EachPair A xs ys → EachPair C xs ys
 pairs_imply A C step [] [] a = tt
 pairs_imply A C step [] (y ∷ ys) a = absurd a
 pairs_imply A C step (x ∷ xs) [] a = absurd a

@@ -6,7 +6,7 @@ use Rattle.mg_turn.specs.Turn.{Searching}
 use Rattle.mg_workers.specs.Run.{Row, Running}
 
 -- two lists of one length, whose members are related place by place
-abbrev pub EachPair : {X : Type 0} → (X → X → Type 0) → List X → List X → Type 0
+abbrev pub EachPair : {X Y : Type 0} → (X → Y → Type 0) → List X → List Y → Type 0
 EachPair Related [] [] = Unit {0}
 EachPair Related [] (y ∷ ys) = ⊥
 EachPair Related (x ∷ xs) [] = ⊥

@@ -3,7 +3,8 @@ use Rattle.std.specs.Prelude.{codes}
 use Rattle.std.proofs.lemmas.Result.{IfOk-weaker}
 use Rattle.magnus.specs.FormReads.{plan_of}
 use Rattle.magnus.specs.Script.{group_of}
-use Rattle.magnus.specs.Output.{Prints, alone}
+use Rattle.mg_session.specs.Output.{Prints}
+use Rattle.magnus.specs.Output.{alone}
 use Rattle.magnus.proofs.Sessions.{prints_found}
 use Rattle.magnus.proofs.session.report_found.Goals as goal
 

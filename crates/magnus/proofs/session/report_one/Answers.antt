@@ -1,8 +1,8 @@
 use Rattle.std.proofs.Common.{◌≡◌, ◌∙◌, ap, List, ℕ, [], ◌∷◌}
 use Rattle.std.specs.Prelude.{codes, option_map}
 use Rattle.std.proofs.lemmas.Result.{IfOk-weaker}
-use Rattle.magnus.specs.Report.{report_text}
-use Rattle.magnus.specs.ReportValues.{verdict_of, search_of}
+use Rattle.mg_report.specs.Report.{report_text}
+use Rattle.mg_report.specs.Values.{verdict_of, search_of}
 use Rattle.magnus.proofs.session.report_one.Goals as goal
 
 pub returns : goal.returns

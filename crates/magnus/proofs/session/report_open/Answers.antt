@@ -5,8 +5,9 @@ use Rattle.mg_workers.specs.declared.held.End.{End}
 use Rattle.mg_workers.specs.declared.held.End.TheVariants as ends
 use Rattle.magnus.specs.FormReads.{plan_of}
 use Rattle.magnus.specs.Script.{group_of, StandsOpen}
-use Rattle.magnus.specs.Output.{Prints, alone}
-use Rattle.magnus.specs.Report.{report_text}
+use Rattle.mg_session.specs.Output.{Prints}
+use Rattle.magnus.specs.Output.{alone}
+use Rattle.mg_report.specs.Report.{report_text}
 use Rattle.magnus.proofs.Sessions.{prints_open, line}
 use Rattle.magnus.proofs.session.report_open.Goals as goal
 

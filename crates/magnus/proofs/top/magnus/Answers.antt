@@ -1,7 +1,7 @@
 use Rattle.std.proofs.Common.{◌≡◌, ap, refl, sym, subst, List, ℕ, inr, drop, ◌+◌}
 use Rattle.std.specs.Prelude.{Option, Some, Err}
 use Rattle.mg_io.specs.Bytes.{ReadsWhole}
-use Rattle.magnus.specs.Plan.{Plan}
+use Rattle.mg_names.specs.Plan.{Plan}
 use Rattle.magnus.specs.FormPlan.{IsForm}
 use Rattle.magnus.specs.Output.{IsOutput, alone}
 use Rattle.magnus.specs.Command.{IsRunCommand}

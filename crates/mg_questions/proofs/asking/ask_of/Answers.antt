@@ -1,7 +1,8 @@
-use Rattle.mg_questions.proofs.Agreement.{quotient_over}
+use Rattle.std.proofs.Common.{◌∙◌}
+use Rattle.mg_questions.proofs.Asked.{can_ask}
 use Rattle.mg_questions.proofs.asking.ask_of.Goals as goal
 
-pub one_goal-requires-in-WordsEqual : goal.one_goal-requires-in-WordsEqual
-one_goal-requires-in-WordsEqual c =
-    quotient_over c.args.question.now c.in-WordsEqual.group c.in-WordsEqual.left c.in-WordsEqual.right c.in_ok-word-in-WordsEqual.word.letters
-    c.in-WordsEqual.is c.requires.words c.in_ok-word-in-WordsEqual.ensures
+pub new-requires : goal.new-requires
+new-requires c =
+    can_ask c.args.question.now c.in_ok-group.group c.in_ok-subgroup.subgroup c.in_ok-goals.goals c.requires
+    c.in_default.ensures (c.in_ok-group.ensures ∙ c.asked_group.ensures) c.in_ok-subgroup.ensures c.in_ok-goals.ensures

@@ -1,4 +1,3 @@
-use Rattle.std.proofs.Common.{arith}
 use Rattle.mg_lex.specs.declared.token.TokenKind.TheVariants as kind
 use Rattle.mg_lex.proofs.Cuts.{token_within}
 use Rattle.mg_terms.proofs.Tokens.{token_at, lexemes_more}

@@ -12,4 +12,4 @@ returns-then-is_empty c =
 
 pub loop-i-preserved : goal.loop-i-preserved
 loop-i-preserved c =
-    c.in_ok-push_all.ensures ∙ (ap (λ t. t ++ c.letters-in-loop-i.result.now) c.loop-i.invariant ∙ (ap (λ t. times c.loop-i._i c.args.w.now.letters ++ t) c.letters-in-loop-i.ensures ∙ sym (times-push c.loop-i._i c.args.w.now.letters)))
+    c.in_ok-push_all.ensures.ok ∙ (ap (λ t. t ++ c.letters-in-loop-i.result.now) c.loop-i.invariant ∙ (ap (λ t. times c.loop-i._i c.args.w.now.letters ++ t) c.letters-in-loop-i.ensures ∙ sym (times-push c.loop-i._i c.args.w.now.letters)))

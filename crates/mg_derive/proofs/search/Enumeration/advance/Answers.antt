@@ -1,22 +1,26 @@
-use Rattle.std.proofs.Common.{◌≡◌, ℕ, ◌+◌, ◌∙◌, refl, subst, arith}
-use Rattle.mg_numbers.specs.Plain.{NoneAmong}
-use Rattle.mg_derive.specs.Acceptance.{AcceptedAt}
-use Rattle.mg_derive.proofs.Ends.{finds_first}
+use Rattle.std.proofs.Common.{◌≡◌, ℕ, ◌+◌, ◌-◌, ap, refl, subst, arith}
+use Rattle.mg_derive.specs.Acceptance.{IsNumbered}
+use Rattle.mg_derive.proofs.Passing.{none_from, finds_first}
 use Rattle.mg_derive.proofs.search.Enumeration.advance.Goals as goal
 
-pub returns-then-test_next-clause-found : goal.returns-then-test_next-clause-found
-returns-then-test_next-clause-found c =
-    let new = c.test_next.new.self in
-    λ spent e.
-    let k : c.loop-spent.spent + 1 ≡ spent = cc e in
-    finds_first c.args.self.now.ask new.ask c.args.self.now.cursor c.args.units c.loop-spent.self.cursor new.cursor c.loop-spent.spent new.text
-    (c.test_next.ensures.ask ∙ c.loop-spent.invariant.ask) c.test_next.ensures.cursor c.loop-spent.invariant.cursor (omega arith)
-    c.loop-spent.invariant.none (c.test_next.ensures.numbered c.if-test_next.true) (c.test_next.ensures.accepted c.if-test_next.true) spent k
-
-pub returns-clause-none : goal.returns-clause-none
-returns-clause-none c = λ e. c.loop-spent.invariant.from_first (omega arith)
+pub returns-then-step-clause-found : goal.returns-then-step-clause-found
+returns-then-step-clause-found c = λ spent e.
+    let now = c.loop-self.self-inside in
+    let stays : c.step.new.self.next ≡ now.walk.next = c.step.ensures.stays c.if-step.true in
+    let s : now.walk.next - c.args.self.now.cursor ≡ spent = let f : c.step.new.self.next - now.cursor ≡ spent = cc e in omega (arith, f, stays, c.loop-self.invariant.cursor) in
+    finds_first c.args.self.now.ask now.ask c.step.new.self.text.symbols c.args.self.now.cursor c.args.units now.walk.next spent c.loop-self.invariant.ask
+    (omega (arith, c.loop-self.invariant.ahead, c.loop-self.invariant.cursor)) (omega (arith, ap (λ v. v.cursor) c.self.view_is)) c.loop-self.invariant.walks.none
+    (subst (λ (n : ℕ). IsNumbered now.ask c.step.new.self.text.symbols n) stays (c.step.ensures.numbered c.if-step.true)) (c.step.ensures.accepted c.if-step.true) s
 
 pub returns-clause-more : goal.returns-clause-more
-returns-clause-more c =
-    let e : c.loop-spent.self.cursor ≡ c.args.self.now.cursor + c.args.units = omega (arith, c.loop-spent.invariant.cursor, c.loop-spent.invariant.within) in
-    λ _. record { all = refl; none = subst (λ (n : ℕ). NoneAmong (AcceptedAt c.args.self.now.ask) c.args.self.now.cursor n) e c.loop-spent.invariant.none }
+returns-clause-more c = λ _.
+    let now = c.loop-self.self-inside in record {
+      all = refl;
+      none = none_from c.args.self.now.ask now.ask c.args.self.now.cursor (c.args.self.now.cursor + c.args.units) now.walk.next c.loop-self.invariant.ask
+          (omega (arith, ap (λ v. v.cursor) c.self.view_is)) c.loop-self.invariant.walks.none;
+    }
+
+pub returns-clause-none : goal.returns-clause-none
+returns-clause-none c = λ _.
+    let now = c.loop-self.self-inside in
+    none_from now.ask now.ask 0 (c.self.inside.cursor + c.args.units) now.walk.next refl (omega arith) c.loop-self.invariant.walks.none

@@ -1,17 +1,15 @@
-use Rattle.std.proofs.Common.{◌≡◌, ◌+◌, ◌-◌, ◌≤◌, true}
-use Rattle.mg_numbers.specs.Plain.{NoneAmong}
-use Rattle.mg_derive.specs.Acceptance.{AcceptedAt}
+use Rattle.std.proofs.Common.{◌≡◌, ◌+◌, ◌-◌, ◌<◌, true}
+use Rattle.mg_derive.specs.Walk.{IsWalk}
 use Rattle.mg_derive.proofs.search.Enumeration.advance.Given as goal
 
-abbrev pub invariant-loop-spent : goal.invariant-loop-spent
-invariant-loop-spent l = record {
-  ask : l.self.ask ≡ l.initial.self.ask;
-  cursor : l.self.cursor ≡ l.initial.self.cursor + l.spent;
-  goes_on : l.self.is_open ≡ true;
-  within : l.spent ≤ l.units;
-  none : NoneAmong (AcceptedAt l.initial.self.ask) l.initial.self.cursor l.self.cursor;
-  from_first : 1 ≤ l.spent → NoneAmong (AcceptedAt l.self.ask) 0 l.self.cursor;
+abbrev pub invariant-loop-self : goal.invariant-loop-self
+invariant-loop-self l = record {
+  ask : l.self-inside.ask ≡ l.fn.self.ask;
+  cursor : l.self-inside.cursor ≡ l.fn.self.cursor;
+  goes_on : l.self-inside.is_open ≡ true;
+  walks : IsWalk l.self-inside.ask l.self-inside.walk;
+  ahead : l.self-inside.cursor < l.self-inside.walk.next;
 }
 
-abbrev pub decreases-loop-spent : goal.decreases-loop-spent
-decreases-loop-spent l = l.units - l.spent
+abbrev pub decreases-loop-self : goal.decreases-loop-self
+decreases-loop-self l = l.last + 1 - l.self-inside.walk.next

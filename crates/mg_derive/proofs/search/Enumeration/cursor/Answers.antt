@@ -1,8 +1,10 @@
-use Rattle.std.proofs.Common.{◌≡◌, true, subst}
+use Rattle.std.proofs.Common.{◌≡◌, true, subst, arith}
 use Rattle.mg_numbers.specs.Plain.{NoneAmong}
 use Rattle.mg_derive.specs.Acceptance.{AcceptedAt}
 use Rattle.mg_derive.specs.Search.{Searched}
 use Rattle.mg_derive.proofs.search.Enumeration.cursor.Goals as goal
 
 pub returns-clause-none : goal.returns-clause-none
-returns-clause-none c = subst (λ (v : Searched). v.is_open ≡ true → NoneAmong (AcceptedAt v.ask) 0 v.cursor) c.self.view_is c.self.invariant.none
+returns-clause-none c =
+    subst (λ (v : Searched). v.is_open ≡ true → NoneAmong (AcceptedAt v.ask) 0 v.cursor) c.self.view_is
+    (λ goes_on k low high accepted. (c.self.invariant.walks goes_on).none k low (omega (arith, high, c.self.invariant.ahead goes_on)) accepted)

@@ -1,7 +1,5 @@
-use Rattle.std.proofs.Common.{◌≡◌, ap, sym}
-use Rattle.mg_terms.specs.declared.reader.Reader.{Reader}
 use Rattle.mg_terms.specs.Word.{bare}
-use Rattle.mg_terms.specs.Reading.{behind, state, joined}
+use Rattle.mg_terms.specs.Reading.{joined}
 use Rattle.mg_terms.proofs.Taking.{is_not, base_closed, closed_steps, closed_ready, kept_has}
 use Rattle.mg_terms.proofs.reader.Reader.behind_base.Goals as goal
 

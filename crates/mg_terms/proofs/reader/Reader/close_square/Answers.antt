@@ -1,4 +1,4 @@
-use Rattle.std.proofs.Common.{◌≡◌, ◌<◌, ◌∙◌, inl, refl, subst}
+use Rattle.std.proofs.Common.{◌<◌, ◌∙◌, inl, refl, subst}
 use Rattle.mg_terms.specs.declared.limits.TheConstants.{WORD_LIMIT}
 use Rattle.mg_terms.proofs.Taking.{square_taken, square_long}
 use Rattle.mg_terms.proofs.reader.Reader.close_square.Goals as goal

@@ -1,6 +1,5 @@
-use Rattle.std.proofs.Common.{sym, refl, arith, subst, IfErr}
+use Rattle.std.proofs.Common.{sym, refl, arith}
 use Rattle.std.proofs.lemmas.Result.{err_from_is_err_and}
-use Rattle.mg_terms.specs.Cause.{IsFirstCause}
 use Rattle.mg_terms.specs.Reading.{start}
 use Rattle.mg_terms.proofs.Reached.{read_on, read_stops, read_all, step_refuses}
 use Rattle.mg_terms.proofs.reader.Reader.read.Goals as goal

@@ -1,0 +1,4 @@
+pub mod Permutation
+pub mod Action
+pub mod Number
+pub mod Layout

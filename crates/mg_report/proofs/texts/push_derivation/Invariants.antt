@@ -1,0 +1,7 @@
+use Rattle.std.proofs.Common.{◌≡◌, ◌++◌, take}
+use Rattle.std.specs.Prelude.{map, codes}
+use Rattle.mg_report.specs.Report.{spaced, symbol_piece}
+use Rattle.mg_report.proofs.texts.push_derivation.Given as goal
+
+abbrev pub invariant-loop-symbol : goal.invariant-loop-symbol
+invariant-loop-symbol l = l.out.items ≡ (l.fn.out.items ++ codes "yes derivation") ++ spaced (map (symbol_piece l.names) (take l.symbol-index l.symbol-items))

@@ -1,0 +1,4 @@
+pub mod Report
+pub mod Log
+pub mod Refusals
+pub mod Values

@@ -1,0 +1,5 @@
+use Rattle.mg_search.proofs.Turns.{sound}
+use Rattle.mg_search.proofs.laws.all_turns_are_sound.Goals as goal
+
+pub returns : goal.returns
+returns c = sound

@@ -1,0 +1,239 @@
+-- What an event keeps of how the searches of a run stand.
+use Rattle.std.proofs.Common.{◌≡◌, ◌≢◌, ℕ, suc, ◌+◌, ◌≤◌, ◌==◌, ◌↔◌, if◌then◌else◌, Bool, true, false, cond, List, [], ◌∷◌, ◌++◌, length, length-append, refl, ap, sym, ◌∙◌, subst, arith, append-nil, add-zero}
+use Rattle.std.specs.Prelude.{Some, Contains, nat_le, max, take}
+use Rattle.std.specs.List.{AllByRecursion}
+use Rattle.std.proofs.lemmas.Bool.Decides.{nat_tests}
+use Rattle.mg_core.specs.declared.entries.Entry.{Entry}
+use Rattle.mg_core.specs.declared.entries.Facts.{Facts}
+use Rattle.mg_core.specs.Log.{facts_of, Settled, KeeperOf, Handed, last_number}
+use Rattle.mg_core.proofs.Logs.{facts_of-append}
+use Rattle.mg_turn.specs.declared.outcome.Outcome.{Outcome}
+use Rattle.mg_turn.specs.declared.outcome.TurnEnd.{TurnEnd}
+use Rattle.mg_turn.specs.declared.outcome.TurnEnd.TheVariants.{More, Found, Closed, Idle, Stopped, Full}
+use Rattle.mg_turn.specs.Turn.{IsSound, EndFits, Settles, records_of, goes_on, is_stopped}
+use Rattle.mg_workers.specs.declared.held.End.{End}
+use Rattle.mg_workers.specs.declared.held.End.TheVariants as ends
+use Rattle.mg_workers.specs.Run.{Row, Running, Event, entry_of, row_after, end_after}
+use Rattle.mg_workers.specs.Rows.{AreApart, units_of}
+use Rattle.mg_workers.proofs.Pairs.{all_at}
+use Rattle.mg_workers.proofs.Counts.{units_of-append, others_apart}
+use Rattle.mg_workers.proofs.Events.{event_sound}
+use Rattle.mg_present.specs.Ask.{Inquiry}
+use Rattle.mg_certs.specs.Claim.{Fact}
+use Rattle.mg_certs.specs.Validity.{recording, key_of}
+use Rattle.mg_plain.specs.Plain.{Plain, PlainEnd, PlainTurn}
+use Rattle.mg_plain.proofs.Turns.{turn_publishes}
+use Rattle.mg_search.specs.Search.{Search, plain, searching, ask_of, is_open, models_wanted, SearchTurn, InRow, HasPublished}
+use Rattle.mg_search.proofs.Turns.{sound, keeps_row}
+use Rattle.mg_session.specs.Run.{KeepsVerdict}
+use Rattle.mg_session.specs.StateOk.{IsOpenAt, EndsSo, Stands}
+use Rattle.mg_session.proofs.Lists.{all-set}
+use Rattle.mg_session.proofs.Keepers.{Brings, IsKeeperOf, is_new, is_old, keeper_grows, keeper_back}
+use Rattle.mg_session.proofs.Settling.{settled_grows, kept_settles}
+
+pub not_both : (b : Bool) → b ≡ true → b ≡ false → ⊥
+not_both b e f = let g : true ≡ false = sym e ∙ f in cc g
+
+contains_none : (x : Fact) → Contains [] x → ⊥
+contains_none x c = let low = c.1 in absurd (omega arith)
+
+none_taken : (n m : ℕ) (models : List (ℕ × Fact)) → (if nat_le 0 (length models) then last_number n (take 0 models) else m) ≡ n
+none_taken n m [] = refl
+none_taken n m (model ∷ models) = let none : nat_le 0 (suc (length models)) ≡ true = grind (arith, nat_tests) in ap (λ b. cond b n m) none
+
+-- a search that goes on hasn't found
+pub not_found : (search : Search) (end : End) → IsOpenAt end search → is_open search ≡ true → end ≡ ends.Found → ⊥
+not_found search end at opened e =
+    let closed : is_open search ≡ false = subst (λ (x : End). IsOpenAt x search) e at in not_both (is_open search) opened closed
+
+module _ (log : List (Entry Fact)) (entry : Entry Fact) where
+  abbrev pub longer : List (Entry Fact)
+  longer = log ++ entry ∷ []
+
+  read_grows : (n : ℕ) → n ≤ length (facts_of log) → n ≤ length (facts_of longer)
+  read_grows n low =
+      let grown : length (facts_of longer) ≡ length (facts_of log) + length (facts_of (entry ∷ [])) = ap length (facts_of-append log (entry ∷ [])) ∙ length-append (facts_of log) (facts_of (entry ∷ [])) in omega arith
+
+  foreign_units : (number : ℕ) → entry.search ≢ number → units_of number longer ≡ units_of number log
+  foreign_units number other =
+      let foreign : (entry.search == number) ≡ false = grind (arith, nat_tests, other) in
+      let none : units_of number (entry ∷ []) ≡ 0 = ap (λ b. cond b entry.units 0 + 0) foreign in omega (arith, units_of-append number log (entry ∷ []), none)
+
+  own_units : (number : ℕ) → entry.search ≡ number → units_of number longer ≡ units_of number log + entry.units
+  own_units number same =
+      let own : (entry.search == number) ≡ true = grind (arith, nat_tests, same) in
+      let one : units_of number (entry ∷ []) ≡ entry.units = ap (λ b. cond b entry.units 0 + 0) own ∙ add-zero entry.units in omega (arith, units_of-append number log (entry ∷ []), one)
+
+  -- the keeper with another number is the one before
+  keeper_was : (ask : Inquiry) (number : ℕ) (kept : Entry Fact) → entry.search ≢ number → kept.search ≡ number → IsKeeperOf key_of log entry ask kept → KeeperOf key_of log ask kept
+  keeper_was ask number kept other same (is_new e unsettled brings) = absurd (other (sym (ap (λ (x : Entry Fact). x.search) e) ∙ same))
+  keeper_was ask number kept other same (is_old k) = k
+
+  -- the entry of another search changes nothing of how a search stands
+  stands_beside : (row : Row Search) → entry.search ≢ row.number → Stands log row → Stands longer row
+  stands_beside row other h = record {
+    in_row = h.in_row;
+    units = h.units;
+    counted = foreign_units row.number other ∙ h.counted;
+    allowed = h.allowed;
+    end = record {
+      found = (
+        λ e. (let k = h.end.found.0 e in (k.0, keeper_grows key_of log (entry ∷ []) (ask_of row.search) k.0 k.1, k.2)),
+        λ k. h.end.found.1 (k.0, keeper_was (ask_of row.search) row.number k.0 other k.2 (keeper_back key_of log entry (ask_of row.search) k.0 k.1), k.2),
+      );
+      verdict = λ v. settled_grows key_of log (entry ∷ []) (ask_of row.search) (h.end.verdict v);
+      openness = h.end.openness;
+      can_end = h.end.can_end;
+    };
+    published = λ kept k same. h.published kept (keeper_was (ask_of row.search) row.number kept other same (keeper_back key_of log entry (ask_of row.search) kept k)) same;
+    read = read_grows row.read h.read;
+  }
+
+-- how a turn of a search ends: it brings nothing, and the search goes on, or it finds
+pub data EndsAs (end : TurnEnd Fact) : Type 0 where
+  goes : goes_on end ≡ true → records_of end ≡ [] → end_after false end ≡ ends.More → EndsAs end
+  finds : (records : List Fact) → end ≡ Found records → EndsAs end
+
+plain_ends : (search : Plain) (units spent : ℕ) (end : TurnEnd Fact) → PlainEnd search units spent end → EndsAs end
+plain_ends search units spent More h = goes refl refl refl
+plain_ends search units spent (Found records) h = finds records refl
+plain_ends search units spent (Stopped seen) h = goes refl refl refl
+plain_ends search units spent (Closed records) h = absurd h
+plain_ends search units spent Idle h = absurd h
+plain_ends search units spent (Full what count) h = absurd h
+
+search_ends : (search : Search) (units : ℕ) (facts : Facts Fact) (outcome : Outcome Fact) (after : Search) → SearchTurn search units facts outcome after → EndsAs outcome.end
+search_ends (plain search) units facts outcome (plain after) turn = plain_ends search units outcome.spent outcome.end turn.end
+
+published : (search : Search) (units : ℕ) (facts : Facts Fact) (outcome : Outcome Fact) (after : Search) (records : List Fact) → is_open search ≡ true → SearchTurn search units facts outcome after → InRow search → outcome.end ≡ Found records → HasPublished after records
+published (plain search) units facts outcome (plain after) records opened turn in_row e =
+    turn_publishes search after units outcome.spent records opened (subst (λ (end : TurnEnd Fact). PlainTurn search units (record { spent = outcome.spent; end = end }) after) e turn) in_row
+
+-- a search that wants no models has read what it had read
+read_on : (search : Search) (units : ℕ) (log : List (Entry Fact)) (read : ℕ) (facts : Facts Fact) → Handed recording.model_of log (ask_of search).group read (models_wanted search units) facts → facts.upto ≡ read
+read_on (plain search) units log read facts handed = handed.upto_is ∙ none_taken read (max read (length (facts_of log))) handed.models
+
+either_within : (b : Bool) (x y n : ℕ) → x ≤ n → y ≤ n → cond b x y ≤ n
+either_within true x y n h g = h
+either_within false x y n h g = g
+
+module _ (log : List (Entry Fact)) (pass units : ℕ) (row : Row Search) (facts : Facts Fact) (outcome : Outcome Fact) (after : Search) where
+  abbrev pub entry : Bool → Entry Fact
+  entry dropped = entry_of pass row outcome dropped
+
+  module _ (opened : is_open row.search ≡ true) (turn : SearchTurn row.search units facts outcome after) (sound : IsSound recording searching row.search units facts outcome after) (h : Stands log row) where
+    no_old : (kept : Entry Fact) → kept.search ≡ row.number → KeeperOf key_of log (ask_of row.search) kept → ⊥
+    no_old kept same k = not_found row.search row.end h.end.openness opened (h.end.found.1 (kept, k, same))
+
+    -- the keeper of the longer log is the entry of this turn, which brings a verdict
+    brings_now : (dropped : Bool) (kept : Entry Fact) → kept.search ≡ row.number → KeeperOf key_of (log ++ entry dropped ∷ []) (ask_of after) kept → (kept ≡ entry dropped) × Brings key_of (ask_of row.search) (entry dropped)
+    brings_now dropped kept same k =
+        elim (keeper_back key_of log (entry dropped) (ask_of row.search) kept (subst (λ (a : Inquiry). KeeperOf key_of (log ++ entry dropped ∷ []) a kept) sound.key k)) [
+          | is_new e unsettled brings ↦ (e, subst (Brings key_of (ask_of row.search)) e brings)
+          | is_old old ↦ absurd (no_old kept same old)
+        ]
+
+    none_brought : Brings key_of (ask_of row.search) (entry false) → records_of outcome.end ≡ [] → ⊥
+    none_brought brings none = contains_none brings.verdict (subst (λ (rs : List Fact). Contains rs brings.verdict) none brings.among)
+
+    first_settles : (records : List Fact) → outcome.end ≡ Found records → Settles recording (ask_of row.search) records
+    first_settles records e = subst (λ (end : TurnEnd Fact). EndFits recording searching row.search units facts outcome.spent end) e sound.end
+
+    entry_brings : (records : List Fact) → outcome.end ≡ Found records → (entry false).records ≡ records
+    entry_brings records e = ap (λ (end : TurnEnd Fact). records_of end) e
+
+    keeps_now : (records : List Fact) → outcome.end ≡ Found records → Settles recording (ask_of row.search) records → (Settled key_of log (ask_of row.search) → ⊥) → KeepsVerdict (log ++ entry false ∷ []) (ask_of after) row.number
+    keeps_now [] e settles unsettled = absurd settles
+    keeps_now (first ∷ rest) e settles unsettled =
+        let ask : ask_of after ≡ ask_of row.search = sound.key in (
+          entry false,
+          record {
+            before = log;
+            after = [];
+            place = refl;
+            kept = refl;
+            verdict = first;
+            among = subst (λ (rs : List Fact). Contains rs first) (sym (entry_brings (first ∷ rest) e)) (0, omega arith, refl);
+            settles_it = settles.0 ∙ ap Some (sym ask);
+            not_before = λ s. unsettled (subst (Settled key_of log) ask s);
+          },
+          refl,
+        )
+
+    settled_now : (records : List Fact) → outcome.end ≡ Found records → Settles recording (ask_of row.search) records → (Settled key_of log (ask_of row.search) → ⊥) → Settled key_of (log ++ entry false ∷ []) (ask_of after)
+    settled_now [] e settles unsettled = absurd settles
+    settled_now (first ∷ rest) e settles unsettled =
+        subst (Settled key_of (log ++ entry false ∷ [])) (sym sound.key)
+        (kept_settles key_of log (entry false) first rest (ask_of row.search) unsettled (append-nil (entry false).records ∙ entry_brings (first ∷ rest) e) settles.0)
+
+    ends_dropped : Settled key_of log (ask_of row.search) → EndsSo (log ++ entry true ∷ []) after row.number ends.Stopped
+    ends_dropped settled = record {
+      found = (λ e. absurd (cc e), λ k. let brings = (brings_now true k.0 k.2 k.1).1 in absurd (not_both true refl brings.kept));
+      verdict = λ _. subst (Settled key_of (log ++ entry true ∷ [])) (sym sound.key) (settled_grows key_of log (entry true ∷ []) (ask_of row.search) settled);
+      openness = tt;
+      can_end = tt;
+    }
+
+    ends_kept : (Settled key_of log (ask_of row.search) → ⊥) → EndsAs outcome.end → EndsSo (log ++ entry false ∷ []) after row.number (end_after false outcome.end)
+    ends_kept unsettled (goes on none is_more) =
+        subst (EndsSo (log ++ entry false ∷ []) after row.number) (sym is_more)
+        (record {
+          found = (λ e. absurd (cc e), λ k. absurd (none_brought (brings_now false k.0 k.2 k.1).1 none));
+          verdict = λ v. absurd v;
+          openness = sound.openness ∙ on;
+          can_end = tt;
+        })
+    ends_kept unsettled (finds records e) =
+        let settles = first_settles records e in
+        let is_found : end_after false outcome.end ≡ ends.Found = ap (λ (end : TurnEnd Fact). end_after false end) e in
+        subst (EndsSo (log ++ entry false ∷ []) after row.number) (sym is_found)
+        (record {
+          found = (λ _. keeps_now records e settles unsettled, λ _. refl);
+          verdict = λ _. settled_now records e settles unsettled;
+          openness = sound.openness ∙ ap (λ (end : TurnEnd Fact). goes_on end) e;
+          can_end = tt;
+        })
+
+    ends_so : (dropped : Bool) → (dropped ≡ true) ↔ Settled key_of log (ask_of row.search) → EndsSo (log ++ entry dropped ∷ []) after row.number (end_after dropped outcome.end)
+    ends_so true was = ends_dropped (was.0 refl)
+    ends_so false was = ends_kept (λ s. not_both false (was.1 s) refl) (search_ends row.search units facts outcome after turn)
+
+    publishes : (dropped : Bool) (kept : Entry Fact) → KeeperOf key_of (log ++ entry dropped ∷ []) (ask_of after) kept → kept.search ≡ row.number → HasPublished after kept.records
+    publishes true kept k same = let brings = (brings_now true kept same k).1 in absurd (not_both true refl brings.kept)
+    publishes false kept k same =
+        let now = brings_now false kept same k in
+        elim (search_ends row.search units facts outcome after turn) [
+          | goes on none is_more ↦ absurd (none_brought now.1 none)
+          | finds records e ↦ subst (HasPublished after) (sym (ap (λ (x : Entry Fact). x.records) now.0 ∙ entry_brings records e)) (published row.search units facts outcome after records opened turn h.in_row e)
+        ]
+
+    pub stands_turn : (dropped : Bool) (seen : List (Entry Fact)) → (dropped ≡ true) ↔ Settled key_of log (ask_of row.search) → Handed recording.model_of seen (ask_of row.search).group row.read (models_wanted row.search units) facts →
+        Stands (log ++ entry dropped ∷ []) (row_after row facts outcome dropped after)
+    stands_turn dropped seen was handed =
+        let units_then = sound.spent in
+        let agreed = h.units in
+        let counted = h.counted in
+        let within = h.allowed in
+        record {
+          in_row = keeps_row row.search units facts outcome after opened turn h.in_row;
+          units = omega arith;
+          counted = own_units log (entry dropped) row.number refl ∙ ap (λ n. n + outcome.spent) counted;
+          allowed = omega arith;
+          end = ends_so dropped was;
+          published = publishes dropped;
+          read = either_within (is_stopped outcome.end) row.read facts.upto (length (facts_of (log ++ entry dropped ∷ [])))
+              (read_grows log (entry dropped) row.read h.read) (read_grows log (entry dropped) facts.upto (subst (λ n. n ≤ length (facts_of log)) (sym (read_on row.search units seen row.read facts handed)) h.read));
+        }
+
+-- an event keeps how all searches of the run stand
+pub event_stands : (workers : ℕ) (IsSize : ℕ → ℕ → ℕ → ℕ → Type 0) (begin : List (Entry Fact)) (old new : Running Fact Search) → Event recording searching workers IsSize begin old new → AreApart old.rows →
+    AllByRecursion (Stands old.log) old.rows → AllByRecursion (Stands new.log) new.rows
+event_stands workers IsSize begin old new event apart h =
+    let entry = entry_of event.pass event.row event.outcome event.dropped in
+    let turned = event_sound recording searching workers IsSize begin sound old new event in
+    let row = all_at (Stands old.log) old.rows event.place event.row h event.of_row in
+    subst (λ (log : List (Entry Fact)). AllByRecursion (Stands log) new.rows) (sym event.log)
+    (subst (AllByRecursion (Stands (old.log ++ entry ∷ []))) (sym event.rows)
+    (all-set (Stands old.log) (Stands (old.log ++ entry ∷ [])) (λ (x z : Row Search). x.number ≢ z.number) old.rows event.place event.row (row_after event.row event.facts event.outcome event.dropped event.search) event.of_row
+    (stands_turn old.log event.pass event.units event.row event.facts event.outcome event.search event.openness event.turn turned row event.dropped event.seen event.is_dropped event.handed)
+    (λ z other. stands_beside old.log entry z other) (others_apart old.rows event.place event.row apart event.of_row) h))

@@ -1,0 +1,13 @@
+pub mod Lists
+pub mod Ledger
+pub mod Asks
+pub mod Settling
+pub mod Keepers
+pub mod Events
+pub mod Rounds
+pub mod States
+pub mod Runs
+pub mod Reaching
+pub mod Printed
+pub mod Steps
+pub mod Refused

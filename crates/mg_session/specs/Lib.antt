@@ -1,0 +1,6 @@
+pub mod State
+pub mod Run
+pub mod Session
+pub mod Output
+pub mod StateOk
+pub mod RunOk
