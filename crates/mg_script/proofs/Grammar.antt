@@ -8,6 +8,8 @@ use Rattle.mg_terms.specs.declared.lexeme.Lexeme.{Lexeme}
 use Rattle.mg_terms.specs.declared.lexeme.Lexeme.TheVariants as lexeme
 use Rattle.mg_terms.specs.Word.{name, bare, Word, single}
 use Rattle.mg_words.specs.declared.procedure.Procedure.{Procedure}
+use Rattle.mg_script.specs.declared.counted.Counted.{Counted}
+use Rattle.mg_script.specs.declared.counted.Counted.TheVariants as counted
 use Rattle.mg_script.specs.declared.form.Property.{Property}
 use Rattle.mg_script.specs.Statement.{Piece, sign, term, property_keyword, procedure_keyword}
 
@@ -36,28 +38,31 @@ pub data Item : Type 0 where
 -- a list, each behind a comma, and what may stand behind the list.
 pub data Rest : Type 0 where
   end : Rest
-  sign_then : Class → Rest → Rest
-  word_then : (left : Option Word) → (Word → Rest) → Rest
+  sign_then : Option Counted → Class → Rest → Rest
+  word_then : Option Counted → (left : Option Word) → (Word → Rest) → Rest
   either : Rest → Rest → Rest
   more : Item → Rest → Rest
 
 abbrev pub name_then : Rest → Rest
-name_then r = sign_then (this lexeme.Name) r
+name_then r = sign_then None (this lexeme.Name) r
+
+abbrev pub counted_name_then : Counted → Rest → Rest
+counted_name_then k r = sign_then (Some k) (this lexeme.Name) r
 
 abbrev pub mark_then : Mark → Rest → Rest
-mark_then m r = sign_then (this (lexeme.Mark m)) r
+mark_then m r = sign_then None (this (lexeme.Mark m)) r
 
 abbrev pub keyword_then : Keyword → Rest → Rest
-keyword_then k r = sign_then (this (lexeme.Keyword k)) r
+keyword_then k r = sign_then None (this (lexeme.Keyword k)) r
 
 abbrev pub relation_then : Rest → Rest
-relation_then r = word_then None (λ u. either (mark_then mark.Equals (word_then (Some u) (λ v. r))) r)
+relation_then r = word_then (Some counted.Relators) None (λ u. either (mark_then mark.Equals (word_then None (Some u) (λ v. r))) r)
 
 abbrev pub item_then : Item → Rest → Rest
-item_then listed_name r = name_then r
-item_then listed_word r = word_then None (λ w. r)
+item_then listed_name r = counted_name_then counted.Generators r
+item_then listed_word r = word_then (Some counted.Members) None (λ w. r)
 item_then listed_relation r = relation_then r
-item_then listed_arrow r = name_then (mark_then mark.Arrow (word_then None (λ w. r)))
+item_then listed_arrow r = name_then (mark_then mark.Arrow (word_then None None (λ w. r)))
 
 abbrev pub comma_then : Item → Rest → Rest
 comma_then i r = mark_then mark.Comma (item_then i (more i r))
@@ -69,8 +74,10 @@ list_then i r = either (item_then i (more i r)) r
 -- the pieces are such a rest
 pub data Reads : Rest → List Piece → Type 0 where
   reads_end : Reads end []
-  reads_sign : (c : Class) (r : Rest) (x : Lexeme) (ps : List Piece) → IsIn c x → Reads r ps → Reads (sign_then c r) (sign x ∷ ps)
-  reads_word : (left : Option Word) (f : Word → Rest) (w : Word) (ps : List Piece) → Reads (f w) ps → Reads (word_then left f) (term left w ∷ ps)
+  reads_sign : (kind : Option Counted) (c : Class) (r : Rest) (x : Lexeme) (ps : List Piece) → IsIn c x → Reads r ps →
+      Reads (sign_then kind c r) (sign kind x ∷ ps)
+  reads_word : (kind : Option Counted) (left : Option Word) (f : Word → Rest) (w : Word) (ps : List Piece) → Reads (f w) ps →
+      Reads (word_then kind left f) (term kind left w ∷ ps)
   reads_first : (a b : Rest) (ps : List Piece) → Reads a ps → Reads (either a b) ps
   reads_second : (a b : Rest) (ps : List Piece) → Reads b ps → Reads (either a b) ps
   reads_more : (i : Item) (r : Rest) (ps : List Piece) → Reads (comma_then i r) ps → Reads (more i r) ps
@@ -87,18 +94,18 @@ abbrev pub bar_rest : Rest
 bar_rest = either (mark_then mark.Bar relations_rest) close_group
 
 abbrev pub group_rest : Rest
-group_rest = name_then (mark_then mark.Equals (mark_then mark.Less (list_then listed_name bar_rest)))
+group_rest = counted_name_then counted.Groups (mark_then mark.Equals (mark_then mark.Less (list_then listed_name bar_rest)))
 
 abbrev pub word_rest : Rest
-word_rest = name_then (keyword_then keyword.In (name_then (mark_then mark.Equals (word_then None (λ w. end)))))
+word_rest = counted_name_then counted.Words (keyword_then keyword.In (name_then (mark_then mark.Equals (word_then None None (λ w. end)))))
 
 abbrev pub subgroup_rest : Rest
 subgroup_rest =
-    name_then (keyword_then keyword.Of (name_then (mark_then mark.Equals (mark_then mark.Less (list_then listed_word close_group)))))
+    counted_name_then counted.Subgroups (keyword_then keyword.Of (name_then (mark_then mark.Equals (mark_then mark.Less (list_then listed_word close_group)))))
 
 abbrev pub map_rest : Rest
 map_rest =
-    name_then (mark_then mark.Colon (name_then (mark_then mark.Arrow (name_then (mark_then mark.Equals (mark_then mark.OpenSquare
+    counted_name_then counted.Maps (mark_then mark.Colon (name_then (mark_then mark.Arrow (name_then (mark_then mark.Equals (mark_then mark.OpenSquare
     (list_then listed_arrow (mark_then mark.CloseSquare end))))))))
 
 abbrev pub in_group : Rest
@@ -109,28 +116,28 @@ in_rest = either (name_then end) (keyword_then keyword.Kernel (name_then end))
 
 abbrev pub words_rest : Rest
 words_rest =
-    either (mark_then mark.Equals (word_then None (λ v. in_group)))
+    either (mark_then mark.Equals (word_then None None (λ v. in_group)))
     (either (keyword_then keyword.In in_rest) (keyword_then keyword.Central in_group))
 
 -- behind the first word of a question
 abbrev pub asked_rest : Word → Rest
-asked_rest (single (bare name)) = either (sign_then a_property end) words_rest
+asked_rest (single (bare name)) = either (sign_then None a_property end) words_rest
 asked_rest _ = words_rest
 
 abbrev pub ask_rest : Rest
-ask_rest = name_then (mark_then mark.Colon (word_then None asked_rest))
+ask_rest = counted_name_then counted.Questions (mark_then mark.Colon (word_then None None asked_rest))
 
 abbrev pub fund_rest : Rest
-fund_rest = sign_then a_number end
+fund_rest = sign_then None a_number end
 
 abbrev pub grant_rest : Rest
-grant_rest = name_then (sign_then a_procedure (sign_then a_number end))
+grant_rest = name_then (sign_then None a_procedure (sign_then None a_number end))
 
 abbrev pub run_rest : Rest
-run_rest = either (sign_then a_number end) end
+run_rest = either (sign_then None a_number end) end
 
 abbrev pub cancel_rest : Rest
-cancel_rest = name_then (sign_then a_procedure end)
+cancel_rest = name_then (sign_then None a_procedure end)
 
 abbrev pub report_rest : Rest
 report_rest = either (keyword_then keyword.Facts end) (either (keyword_then keyword.Log end) end)
@@ -141,4 +148,4 @@ statement_rest =
     (either (keyword_then keyword.Subgroup subgroup_rest) (either (keyword_then keyword.Map map_rest)
     (either (keyword_then keyword.Ask ask_rest) (either (keyword_then keyword.Fund fund_rest)
     (either (keyword_then keyword.Grant grant_rest) (either (keyword_then keyword.Run run_rest)
-    (either (keyword_then keyword.Cancel cancel_rest) (keyword_then keyword.Report report_rest)))))))))
+    (either (keyword_then keyword.Cancel cancel_rest) (sign_then (Some counted.Reports) (this (lexeme.Keyword keyword.Report)) report_rest)))))))))

@@ -1,4 +1,5 @@
 pub mod Lines
 pub mod Cut
 pub mod Statement
+pub mod Count
 pub mod Cause

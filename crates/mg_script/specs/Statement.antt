@@ -9,6 +9,8 @@ use Rattle.mg_terms.specs.declared.lexeme.Lexeme.TheVariants as lexeme
 use Rattle.mg_terms.specs.Word.{name, bare, Word, single, word_lexemes}
 use Rattle.mg_words.specs.declared.procedure.Procedure.{Procedure}
 use Rattle.mg_words.specs.declared.procedure.Procedure.TheVariants as procedure
+use Rattle.mg_script.specs.declared.counted.Counted.{Counted}
+use Rattle.mg_script.specs.declared.counted.Counted.TheVariants as counted
 use Rattle.mg_script.specs.declared.form.Property.{Property}
 use Rattle.mg_script.specs.declared.form.Property.TheVariants as property
 use Rattle.mg_script.specs.declared.form.Printed.{Printed}
@@ -42,15 +44,15 @@ pub data Statement : Type 0 where
   cancel : Procedure → Statement
   report : Printed → Statement
 
--- What a statement is written of: a lexeme, or a word. On the right side of a relation that is an equation
--- it goes with the word on the left side.
+-- What a statement is written of: a lexeme, or a word, and what it is counted as. A word on the right side of
+-- a relation that is an equation goes with the word on the left side.
 pub data Piece : Type 0 where
-  sign : Lexeme → Piece
-  term : (left : Option Word) → Word → Piece
+  sign : Option Counted → Lexeme → Piece
+  term : Option Counted → (left : Option Word) → Word → Piece
 
 abbrev pub piece_lexemes : Piece → List Lexeme
-piece_lexemes (sign x) = x ∷ []
-piece_lexemes (term left w) = word_lexemes w
+piece_lexemes (sign kind x) = x ∷ []
+piece_lexemes (term kind left w) = word_lexemes w
 
 abbrev pub pieces_lexemes : List Piece → List Lexeme
 pieces_lexemes [] = []
@@ -58,19 +60,26 @@ pieces_lexemes (p ∷ ps) = piece_lexemes p ++ pieces_lexemes ps
 
 -- single pieces
 abbrev pub a_name : Piece
-a_name = sign lexeme.Name
+a_name = sign None lexeme.Name
+
+-- the name that a statement declares, or that of a generator
+abbrev pub counted_name : Counted → Piece
+counted_name k = sign (Some k) lexeme.Name
 
 abbrev pub the_mark : Mark → Piece
-the_mark m = sign (lexeme.Mark m)
+the_mark m = sign None (lexeme.Mark m)
 
 abbrev pub the_keyword : Keyword → Piece
-the_keyword k = sign (lexeme.Keyword k)
+the_keyword k = sign None (lexeme.Keyword k)
 
 abbrev pub the_number : ℕ → Piece
-the_number n = sign (lexeme.Number n)
+the_number n = sign None (lexeme.Number n)
 
 abbrev pub a_word : Word → Piece
-a_word w = term None w
+a_word w = term None None w
+
+abbrev pub counted_word : Counted → Word → Piece
+counted_word k w = term (Some k) None w
 
 -- members of a list, with commas between them
 abbrev pub listed_on : List (List Piece) → List Piece
@@ -81,13 +90,16 @@ abbrev pub listed : List (List Piece) → List Piece
 listed [] = []
 listed (x ∷ xs) = x ++ listed_on xs
 
-abbrev pub names : ℕ → List (List Piece)
-names zero = []
-names (suc n) = (a_name ∷ []) ∷ names n
+abbrev pub generator_names : ℕ → List (List Piece)
+generator_names zero = []
+generator_names (suc n) = (counted_name counted.Generators ∷ []) ∷ generator_names n
 
 abbrev pub relation_pieces : Relation → List Piece
-relation_pieces (relator w) = a_word w ∷ []
-relation_pieces (equation u v) = a_word u ∷ the_mark mark.Equals ∷ term (Some u) v ∷ []
+relation_pieces (relator w) = counted_word counted.Relators w ∷ []
+relation_pieces (equation u v) = counted_word counted.Relators u ∷ the_mark mark.Equals ∷ term None (Some u) v ∷ []
+
+abbrev pub member_pieces : Word → List Piece
+member_pieces w = counted_word counted.Members w ∷ []
 
 abbrev pub bar_pieces : Option (List Relation) → List Piece
 bar_pieces None = []
@@ -135,22 +147,22 @@ printed_pieces printed.Log = the_keyword keyword.Log ∷ []
 -- how a statement is written
 abbrev pub statement_pieces : Statement → List Piece
 statement_pieces (group n rs) =
-    the_keyword keyword.Group ∷ a_name ∷ the_mark mark.Equals ∷ the_mark mark.Less ∷
-    (listed (names n) ++ (bar_pieces rs ++ the_mark mark.Greater ∷ []))
+    the_keyword keyword.Group ∷ counted_name counted.Groups ∷ the_mark mark.Equals ∷ the_mark mark.Less ∷
+    (listed (generator_names n) ++ (bar_pieces rs ++ the_mark mark.Greater ∷ []))
 statement_pieces (word w) =
-    the_keyword keyword.Word ∷ a_name ∷ the_keyword keyword.In ∷ a_name ∷ the_mark mark.Equals ∷ a_word w ∷ []
+    the_keyword keyword.Word ∷ counted_name counted.Words ∷ the_keyword keyword.In ∷ a_name ∷ the_mark mark.Equals ∷ a_word w ∷ []
 statement_pieces (subgroup ws) =
-    the_keyword keyword.Subgroup ∷ a_name ∷ the_keyword keyword.Of ∷ a_name ∷ the_mark mark.Equals ∷ the_mark mark.Less ∷
-    (listed (map (λ w. a_word w ∷ []) ws) ++ the_mark mark.Greater ∷ [])
+    the_keyword keyword.Subgroup ∷ counted_name counted.Subgroups ∷ the_keyword keyword.Of ∷ a_name ∷ the_mark mark.Equals ∷ the_mark mark.Less ∷
+    (listed (map member_pieces ws) ++ the_mark mark.Greater ∷ [])
 statement_pieces (mapping ws) =
-    the_keyword keyword.Map ∷ a_name ∷ the_mark mark.Colon ∷ a_name ∷ the_mark mark.Arrow ∷ a_name ∷ the_mark mark.Equals ∷ the_mark mark.OpenSquare ∷
-    (listed (map arrow_pieces ws) ++ the_mark mark.CloseSquare ∷ [])
-statement_pieces (ask q) = the_keyword keyword.Ask ∷ a_name ∷ the_mark mark.Colon ∷ question_pieces q
+    the_keyword keyword.Map ∷ counted_name counted.Maps ∷ the_mark mark.Colon ∷ a_name ∷ the_mark mark.Arrow ∷ a_name ∷ the_mark mark.Equals ∷
+    the_mark mark.OpenSquare ∷ (listed (map arrow_pieces ws) ++ the_mark mark.CloseSquare ∷ [])
+statement_pieces (ask q) = the_keyword keyword.Ask ∷ counted_name counted.Questions ∷ the_mark mark.Colon ∷ question_pieces q
 statement_pieces (fund n) = the_keyword keyword.Fund ∷ the_number n ∷ []
 statement_pieces (grant p n) = the_keyword keyword.Grant ∷ a_name ∷ the_keyword (procedure_keyword p) ∷ the_number n ∷ []
 statement_pieces (run bound) = the_keyword keyword.Run ∷ bound_pieces bound
 statement_pieces (cancel p) = the_keyword keyword.Cancel ∷ a_name ∷ the_keyword (procedure_keyword p) ∷ []
-statement_pieces (report p) = the_keyword keyword.Report ∷ printed_pieces p
+statement_pieces (report p) = sign (Some counted.Reports) (lexeme.Keyword keyword.Report) ∷ printed_pieces p
 
 abbrev pub statement_lexemes : Statement → List Lexeme
 statement_lexemes s = pieces_lexemes (statement_pieces s)

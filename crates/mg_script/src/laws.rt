@@ -4,6 +4,7 @@ ghost use Rattle.std.specs.Prelude.{◌≡◌, ℕ, List};
 ghost use Rattle.mg_terms.specs.declared.lexeme.Lexeme.{Lexeme};
 ghost use Rattle.mg_script.specs.Lines.{AreLines};
 ghost use Rattle.mg_script.specs.Statement.{Statement, statement_lexemes};
+ghost use Rattle.mg_script.specs.declared.counted.Counts.{Counts};
 ghost use Rattle.mg_script.specs.Cause.{IsReach, IsFirstCause};
 
 use mg_lex::Cause;
@@ -22,6 +23,6 @@ pub fn one_statement()
 /// them.
 pub fn one_place()
     ensures reach { (xs : List Lexeme) (m n : ℕ) → IsReach xs m → IsReach xs n → m ≡ n }
-    ensures first { (xs : List Lexeme) (p q : ℕ) (c d : Cause) →
-        IsFirstCause xs p c → IsFirstCause xs q d → (p ≡ q) × (c ≡ d) }
+    ensures first { (counts : Counts) (xs : List Lexeme) (p q : ℕ) (c d : Cause) →
+        IsFirstCause counts xs p c → IsFirstCause counts xs q d → (p ≡ q) × (c ≡ d) }
 {}

@@ -1,10 +1,12 @@
 //! Statements of the session language.
 #![tactic(auto)]
 
+mod counted;
 mod form;
 mod laws;
 mod lines;
 
+pub use counted::{Counted, Counts, LETTER_LIMIT};
 pub use form::{Printed, Property};
 pub use laws::{one_cut, one_place, one_statement};
 pub use lines::Lines;

@@ -1,0 +1,67 @@
+-- What is counted in a script.
+use Rattle.std.specs.Prelude.{◌≡◌, ℕ, ◌+◌, ◌≤◌, ◌==◌, Bool, false, Option, Some, None, List, [], ◌∷◌, filter, length}
+use Rattle.mg_terms.specs.Word.{word_letters}
+use Rattle.mg_script.specs.declared.counted.Counted.{Counted}
+use Rattle.mg_script.specs.declared.counted.Counted.TheVariants as counted
+use Rattle.mg_script.specs.declared.counted.Counts.{Counts}
+use Rattle.mg_script.specs.Statement.{Piece, sign, term, Statement, statement_pieces}
+
+-- how many there may be
+abbrev pub limit_of : Counted → ℕ
+limit_of counted.Groups = 64
+limit_of counted.Words = 1024
+limit_of counted.Subgroups = 256
+limit_of counted.Maps = 256
+limit_of counted.Questions = 1024
+limit_of counted.Generators = 64
+limit_of counted.Relators = 256
+limit_of counted.Members = 64
+limit_of counted.Reports = 64
+
+abbrev pub count_of : Counts → Counted → ℕ
+count_of c counted.Groups = c.groups
+count_of c counted.Words = c.words
+count_of c counted.Subgroups = c.subgroups
+count_of c counted.Maps = c.maps
+count_of c counted.Questions = c.questions
+count_of c counted.Generators = c.generators
+count_of c counted.Relators = c.relators
+count_of c counted.Members = c.members
+count_of c counted.Reports = c.reports
+
+abbrev pub counted_number : Counted → ℕ
+counted_number counted.Groups = 0
+counted_number counted.Words = 1
+counted_number counted.Subgroups = 2
+counted_number counted.Maps = 3
+counted_number counted.Questions = 4
+counted_number counted.Generators = 5
+counted_number counted.Relators = 6
+counted_number counted.Members = 7
+counted_number counted.Reports = 8
+
+-- the piece is counted as this
+abbrev pub is_one : Counted → Option Counted → Bool
+is_one k None = false
+is_one k (Some j) = counted_number k == counted_number j
+
+abbrev pub is_counted : Counted → Piece → Bool
+is_counted k (sign kind x) = is_one k kind
+is_counted k (term kind left w) = is_one k kind
+
+abbrev pub how_many : Counted → List Piece → ℕ
+how_many k ps = length (filter (is_counted k) ps)
+
+-- the letters of the words among pieces, written out
+abbrev pub piece_letters : Piece → ℕ
+piece_letters (sign kind x) = 0
+piece_letters (term kind left w) = word_letters w
+
+abbrev pub letters_in : List Piece → ℕ
+letters_in [] = 0
+letters_in (p ∷ ps) = piece_letters p + letters_in ps
+
+-- the counts with those of some pieces
+pub record Adds (ps : List Piece) (before after : Counts) : Type 0 where
+  pub counted : (k : Counted) → count_of after k ≡ count_of before k + how_many k ps
+  pub letters : after.letters ≡ before.letters + letters_in ps
