@@ -3,3 +3,4 @@ pub mod Cut
 pub mod Statement
 pub mod Count
 pub mod Cause
+pub mod Script
