@@ -2,5 +2,9 @@
 #![tactic(auto)]
 
 mod laws;
+mod limits;
+mod resolving;
 
 pub use laws::a_question_asks_once;
+pub use limits::{ASK_LETTER_LIMIT, COSET_LIMIT, REWRITE_LIMIT, SEARCH_LIMIT};
+pub use resolving::{ResolveRefused, resolve};
