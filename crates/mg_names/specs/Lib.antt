@@ -4,3 +4,6 @@ pub mod Scope
 pub mod Meaning
 pub mod Cause
 pub mod Resolve
+pub mod Values
+pub mod Applies
+pub mod IsPlan
