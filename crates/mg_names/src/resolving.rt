@@ -2,8 +2,10 @@
 
 ghost use Rattle.std.specs.Prelude.{◌≡◌, ℕ, Err, IfOk, List as ListOf};
 ghost use Rattle.mg_script.specs.Script.{IsScript};
-ghost use Rattle.mg_names.specs.Resolve.{IsRefused};
+ghost use Rattle.mg_names.specs.IsPlan.{IsPlan};
+ghost use Rattle.mg_names.specs.Resolve.{IsPlanOf, IsRefused};
 
+use crate::plan::Plan;
 use mg_lex::Refused;
 use mg_script::Script;
 use std::alloc::Global;
@@ -18,9 +20,11 @@ pub enum ResolveRefused {
     NoMemory,
 }
 
-pub fn resolve(alloc: Global, script: &Script) -> Result<(), ResolveRefused>
-    requires { (bytes : ListOf ℕ) × IsScript bytes script.now }
-    ensures refused { (r : Refused) → result ≡ Err (ResolveRefused.Refused r) → IsRefused script.now r }
+pub fn resolve(alloc: Global, script: Script) -> Result<Plan, ResolveRefused>
+    requires { (bytes : ListOf ℕ) × IsScript bytes script }
+    ensures plan { IfOk result (IsPlanOf script) }
+    ensures within { IfOk result IsPlan }
+    ensures refused { (r : Refused) → result ≡ Err (ResolveRefused.Refused r) → IsRefused script r }
 {
     Err(ResolveRefused::NoMemory)
 }
