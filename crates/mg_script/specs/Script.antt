@@ -1,6 +1,6 @@
 -- Scripts: what is read of their lines, and where they are refused.
 use Rattle.std.specs.Prelude.{◌≡◌, ◌≢◌, ◌⊎◌, ℕ, ◌+◌, ◌<◌, ◌≤◌, Option, Some, None, List, [], ◌∷◌, ◌++◌, length, slice_get}
-use Rattle.std.specs.List.{AllZip}
+use Rattle.std.specs.List.{AllZip, AllByRecursion}
 use Rattle.mg_lex.specs.declared.limits.TheConstants.{NUMBER_LIMIT}
 use Rattle.mg_lex.specs.declared.refusal.Cause.{Cause}
 use Rattle.mg_lex.specs.declared.refusal.Cause.TheVariants as cause
@@ -17,7 +17,7 @@ use Rattle.mg_terms.specs.declared.lexeme.Lexeme.TheVariants as lexeme
 use Rattle.mg_terms.specs.Lexeme.{IsLexemeOf}
 use Rattle.mg_script.specs.declared.counted.Counts.{Counts}
 use Rattle.mg_script.specs.declared.script.ScriptLine.{ScriptLine}
-use Rattle.mg_script.specs.Count.{Adds}
+use Rattle.mg_script.specs.Count.{Adds, IsBounded, AreWithinLimits}
 use Rattle.mg_script.specs.Cause as grammar
 use Rattle.mg_script.specs.Lines.{AreLines}
 use Rattle.mg_script.specs.Statement.{Statement, statement_pieces, statement_lexemes}
@@ -97,6 +97,8 @@ pub record IsKept (counts : Counts) (number : ℕ) (line : List ℕ) (kept : Scr
   pub statement : Statement
   pub written : statement_lexemes statement ≡ kept.lexemes
   pub adds : Adds (statement_pieces statement) counts after
+  pub bounded : AllByRecursion IsBounded (statement_pieces statement)
+  pub within : AreWithinLimits after
   pub faultless : LineIsFaultless counts line
 
 -- a line without tokens, in which no cause stands
