@@ -5,3 +5,8 @@ pub mod Written
 pub mod Unique
 pub mod Reaches
 mod Trees
+mod LineTokens
+mod LineLexemes
+mod LineCauses
+mod Causes
+mod Scripts

@@ -1,6 +1,5 @@
 -- What is counted in a script.
 use Rattle.std.specs.Prelude.{◌≡◌, ℕ, ◌+◌, ◌≤◌, ◌==◌, Bool, false, Option, Some, None, List, [], ◌∷◌, filter, length}
-use Rattle.std.specs.List.{AllByRecursion}
 use Rattle.mg_terms.specs.declared.limits.TheConstants.{WORD_LIMIT}
 use Rattle.mg_terms.specs.Event.{AreWithin, word_events}
 use Rattle.mg_terms.specs.Word.{Word, word_letters}

@@ -3,7 +3,6 @@ use Rattle.std.specs.Prelude.{◌≡◌, ◌≢◌, ◌⊎◌, ℕ, ◌+◌, ◌
 use Rattle.std.specs.List.{AllZip, AllByRecursion}
 use Rattle.mg_lex.specs.declared.limits.TheConstants.{NUMBER_LIMIT}
 use Rattle.mg_lex.specs.declared.refusal.Cause.{Cause}
-use Rattle.mg_lex.specs.declared.refusal.Cause.TheVariants as cause
 use Rattle.mg_lex.specs.declared.refusal.Refused.{Refused}
 use Rattle.mg_lex.specs.declared.token.Token.{Token}
 use Rattle.mg_lex.specs.declared.token.TokenKind.TheVariants as kind
@@ -112,7 +111,7 @@ AreKept counts number [] kept after = (kept ≡ []) × (after ≡ counts)
 AreKept counts number (line ∷ lines) kept after =
     (IsSkipped line × AreKept counts (number + 1) lines kept after)
     ⊎ ((first : ScriptLine) × (others : List ScriptLine) × (mid : Counts) × (kept ≡ first ∷ others) ×
-       IsKept (counted_anew counts) number line first mid × AreKept mid (number + 1) lines others after)
+    IsKept (counted_anew counts) number line first mid × AreKept mid (number + 1) lines others after)
 
 -- the bytes are a script with these statements, in which no cause stands
 pub record IsScript (bytes : List ℕ) (script : List ScriptLine) : Type 0 where

@@ -6,8 +6,10 @@ ghost use Rattle.mg_script.specs.Lines.{AreLines};
 ghost use Rattle.mg_script.specs.Statement.{Statement, statement_lexemes};
 ghost use Rattle.mg_script.specs.declared.counted.Counts.{Counts};
 ghost use Rattle.mg_script.specs.Cause.{IsReach, IsFirstCause};
+ghost use Rattle.mg_script.specs.declared.script.ScriptLine.{ScriptLine};
+ghost use Rattle.mg_script.specs.Script.{IsScript, IsRefused};
 
-use mg_lex::Cause;
+use mg_lex::{Cause, Refused};
 
 /// Bytes are cut into lines in one way.
 pub fn one_cut()
@@ -25,4 +27,11 @@ pub fn one_place()
     ensures reach { (xs : List Lexeme) (m n : ℕ) → IsReach xs m → IsReach xs n → m ≡ n }
     ensures first { (counts : Counts) (xs : List Lexeme) (p q : ℕ) (c d : Cause) →
         IsFirstCause counts xs p c → IsFirstCause counts xs q d → (p ≡ q) × (c ≡ d) }
+{}
+
+/// Bytes are a script in one way, or are refused in one way, and never both.
+pub fn a_script_or_a_refusal()
+    ensures script { (bytes : List ℕ) (s t : List ScriptLine) → IsScript bytes s → IsScript bytes t → s ≡ t }
+    ensures refusal { (bytes : List ℕ) (r s : Refused) → IsRefused bytes r → IsRefused bytes s → r ≡ s }
+    ensures never_both { (bytes : List ℕ) (s : List ScriptLine) (r : Refused) → IsScript bytes s → IsRefused bytes r → ⊥ }
 {}

@@ -10,7 +10,7 @@ mod script;
 
 pub use counted::{Counted, Counts, LETTER_LIMIT};
 pub use form::{Printed, Property};
-pub use laws::{one_cut, one_place, one_statement};
+pub use laws::{a_script_or_a_refusal, one_cut, one_place, one_statement};
 pub use lines::Lines;
 pub use parsing::{ParseRefused, parse};
 pub use script::{Script, ScriptLine};
