@@ -9,4 +9,4 @@ mod LineTokens
 mod LineLexemes
 mod LineCauses
 mod Causes
-mod Scripts
+pub mod Scripts

@@ -11,3 +11,5 @@ pub mod Reaching
 pub mod Printed
 pub mod Steps
 pub mod Refused
+pub mod Others
+pub mod Unbuilt

@@ -6,3 +6,6 @@ pub mod StateOk
 pub mod RunOk
 pub mod Kept
 pub mod Built
+pub mod Scripts
+pub mod Refusing
+pub mod Other

@@ -1,8 +1,10 @@
-//! Sessions: what the steps of a plan do to units, searches and the log, and what is printed of them. So far
-//! these are the definitions, and the laws that follow from them.
+//! Sessions: what the steps of a plan do to units, searches and the log, and what is printed of them; and the
+//! session of a script.
 #![tactic(auto)]
 
 mod laws;
+mod plan;
+mod script;
 mod state;
 
 pub use laws::{
@@ -12,3 +14,5 @@ pub use laws::{
     steps_lead_from_state_to_state, the_first_number_settles, units_balance_where_printed,
     verdicts_carry_certificates,
 };
+pub use plan::run_plan;
+pub use script::{SessionRefused, run_script};
