@@ -1,9 +1,11 @@
 -- What the program is asked to do, and what it can't do yet.
-use Rattle.std.specs.Prelude.{◌≡◌, ℕ, ◌<◌, List, [], ◌∷◌, length, codes}
+use Rattle.std.specs.Prelude.{◌≡◌, ℕ, Option, IfSome, List, [], ◌∷◌, codes}
 use Rattle.std.specs.Borrow.{Bor}
-use Rattle.mg_names.specs.Plan.{Plan}
-use Rattle.magnus.specs.FormPlan.{IsForm}
-use Rattle.magnus.specs.declared.status.TheConstants.{MOST_SCRIPT_BYTES}
+use Rattle.mg_names.specs.Scope.{Scope}
+use Rattle.mg_session.specs.Scripts.{Resolves}
+use Rattle.mg_session.specs.Scripts as session
+use Rattle.magnus.specs.declared.status.Status.{Status}
+use Rattle.magnus.specs.declared.status.Status.TheVariants.{Done, ReadFault, WriteFault, ScriptRefused, TooLong, NoMemory, NotBuilt}
 
 -- the words are the one word `run`
 abbrev pub IsRunCommand : List (Bor (List ℕ)) → Type 0
@@ -11,8 +13,25 @@ IsRunCommand [] = ⊥
 IsRunCommand (word ∷ []) = word.now ≡ codes "run"
 IsRunCommand (word ∷ other ∷ words) = ⊥
 
--- what isn't built: other words, a longer script, and a script that isn't of the form
-pub data Unbuilt (words : List (Bor (List ℕ))) (script : List ℕ) (line : ℕ) : Type 0 where
+-- what isn't built: other words, told with line 0, and a line of a script, where the source tells it
+pub data Unbuilt (words : List (Bor (List ℕ))) (script : Option (List ℕ)) (line : ℕ) : Type 0 where
   other_words : (IsRunCommand words → ⊥) → line ≡ 0 → Unbuilt words script line
-  longer : MOST_SCRIPT_BYTES < length script → line ≡ 0 → Unbuilt words script line
-  other_form : ((plan : Plan) → IsForm script plan → ⊥) → line ≡ 0 → Unbuilt words script line
+  in_script : IsRunCommand words → IfSome script (λ bytes. session.Unbuilt bytes line) → Unbuilt words script line
+
+-- the script has a meaning, and asks for nothing that isn't built
+pub record IsBuilt (script : List ℕ) : Type 0 where
+  pub scope : Scope
+  pub resolves : Resolves script scope
+  pub none : (line : ℕ) → session.Unbuilt script line → ⊥
+
+-- the script was run
+abbrev pub HasRun : Status → Type 0
+HasRun Done = Unit {0}
+HasRun WriteFault = Unit {0}
+HasRun _ = ⊥
+
+-- the script was read to its end
+abbrev pub HasRead : Status → Type 0
+HasRead (ScriptRefused r) = Unit {0}
+HasRead (NotBuilt line) = Unit {0}
+HasRead status = HasRun status

@@ -1,7 +1,4 @@
-pub mod Form
-pub mod FormPlan
-pub mod FormReads
-pub mod Output
 pub mod Command
 pub mod Exit
-pub mod Script
+pub mod Message
+pub mod Answer

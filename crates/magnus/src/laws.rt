@@ -4,48 +4,36 @@ ghost use Rattle.std.specs.List.{AllByRecursion};
 ghost use Rattle.mg_core.specs.declared.entries.Entry.{Entry as EntryOf};
 ghost use Rattle.mg_core.specs.Log.{Settled, KeeperOf};
 ghost use Rattle.mg_numbers.specs.Plain.{First};
-ghost use Rattle.mg_present.specs.Same.{Same};
-ghost use Rattle.mg_names.specs.Plan.{PlanQuestion, run};
+ghost use Rattle.mg_names.specs.Plan.{run};
 ghost use Rattle.mg_certs.specs.Claim.{Fact};
 ghost use Rattle.mg_certs.specs.Validity.{key_of};
 ghost use Rattle.mg_plain.specs.Plain.{AcceptedBy, Publishes, IsPlain};
 ghost use Rattle.mg_search.specs.Search.{ask_of, procedure_of};
-ghost use Rattle.mg_report.specs.Report.{QuestionBlock};
 ghost use Rattle.mg_session.specs.State.{State, SearchState};
-ghost use Rattle.mg_session.specs.Output.{IsBlock};
 ghost use Rattle.mg_session.specs.StateOk.{StateOk};
 ghost use Rattle.mg_session.specs.RunOk.{reach};
-ghost use Rattle.magnus.specs.Output.{IsOutput, alone};
+ghost use Rattle.mg_session.specs.Built.{one_worker};
+ghost use Rattle.mg_session.specs.Scripts.{IsOutput};
 
 /// In every state behind a legal output each account balances, the funds are in the purse, held or
 /// spent, the log is legal, and each search stands as its entries and the verdicts say.
 pub fn states_are_in_order()
-    ensures { (script output : List ℕ) (legal : IsOutput script alone output) → AllByRecursion (StateOk legal.plan 1) legal.prints.states }
-{}
-
-/// Where a legal output has the answer YES, the word of the script, as it is written there, is the same
-/// element as the empty word in the group of the question: relators, their inverses and pairs of inverse
-/// letters, inserted and deleted, lead from one to the other.
-pub fn the_word_is_one()
-    ensures { (script output : List ℕ) (legal : IsOutput script alone output) (place : ℕ) (question : PlanQuestion) →
-        slice_get legal.plan.questions place ≡ Some question →
-        AllByRecursion (λ state. (block : QuestionBlock) → IsBlock legal.plan state place question block →
-        IfSome block.verdict (λ verdict. Same block.ask.group legal.is_form.form.question [])) legal.prints.states }
+    ensures { (script output : List ℕ) (legal : IsOutput script one_worker output) → AllByRecursion (StateOk legal.scope.plan 1) legal.prints.states }
 {}
 
 /// Behind a legal output, where a run has a search whose reach is at least the first accepted number, the Ask of
 /// that search is settled after the run; and where the Ask isn't settled, a search through numbered objects has
 /// spent its reach. Where the search keeps the verdict, it has published the object with the least number.
 pub fn the_first_number_settles()
-    ensures settles { (script output : List ℕ) (legal : IsOutput script alone output) (step : ℕ) (bound : Option ℕ) (old new : State) (place : ℕ) (search : SearchState) (n : ℕ) →
-        slice_get legal.plan.steps step ≡ Some (run bound) → slice_get legal.prints.states step ≡ Some old → slice_get legal.prints.states (step + 1) ≡ Some new →
+    ensures settles { (script output : List ℕ) (legal : IsOutput script one_worker output) (step : ℕ) (bound : Option ℕ) (old new : State) (place : ℕ) (search : SearchState) (n : ℕ) →
+        slice_get legal.scope.plan.steps step ≡ Some (run bound) → slice_get legal.prints.states step ≡ Some old → slice_get legal.prints.states (step + 1) ≡ Some new →
         slice_get old.searches place ≡ Some search → First (AcceptedBy (procedure_of search.search) (ask_of search.search)) n →
         n ≤ reach bound search → Settled key_of new.log (ask_of search.search) }
-    ensures spends { (script output : List ℕ) (legal : IsOutput script alone output) (step : ℕ) (bound : Option ℕ) (old new : State) (place : ℕ) (search : SearchState) →
-        slice_get legal.plan.steps step ≡ Some (run bound) → slice_get legal.prints.states step ≡ Some old → slice_get legal.prints.states (step + 1) ≡ Some new →
+    ensures spends { (script output : List ℕ) (legal : IsOutput script one_worker output) (step : ℕ) (bound : Option ℕ) (old new : State) (place : ℕ) (search : SearchState) →
+        slice_get legal.scope.plan.steps step ≡ Some (run bound) → slice_get legal.prints.states step ≡ Some old → slice_get legal.prints.states (step + 1) ≡ Some new →
         slice_get old.searches place ≡ Some search → IsPlain (procedure_of search.search) → (Settled key_of new.log (ask_of search.search) → ⊥) →
         (after : SearchState) × (slice_get new.searches place ≡ Some after) × (after.account.spent ≡ reach bound search) }
-    ensures least { (script output : List ℕ) (legal : IsOutput script alone output) (step : ℕ) (state : State) (place : ℕ) (search : SearchState) (entry : EntryOf Fact) →
+    ensures least { (script output : List ℕ) (legal : IsOutput script one_worker output) (step : ℕ) (state : State) (place : ℕ) (search : SearchState) (entry : EntryOf Fact) →
         slice_get legal.prints.states step ≡ Some state → slice_get state.searches place ≡ Some search →
         KeeperOf key_of state.log (ask_of search.search) entry → entry.search ≡ search.number →
         (n : ℕ) × First (AcceptedBy (procedure_of search.search) (ask_of search.search)) n ×

@@ -1,32 +1,45 @@
-//! The Magnus workbench: reads a session script on standard input, searches for an answer to its
-//! question about a finitely presented group, and prints a report whose answers can be checked again.
+//! The Magnus workbench: reads a session script on standard input, searches for answers to its
+//! questions about finitely presented groups, and prints reports whose answers can be checked again.
 #![tactic(auto)]
 
-mod form;
 mod gate;
 mod laws;
-mod session;
+mod message;
 mod status;
 mod top;
 
-pub use form::{FormRefused, Script, read_form};
 pub use gate::{Gate, NoGate};
-pub use laws::{states_are_in_order, the_first_number_settles, the_word_is_one};
+pub use laws::{states_are_in_order, the_first_number_settles};
+pub use message::message;
 use mg_io::{InputSource, OutputSink};
-pub use session::run_script;
 pub use status::{MOST_SCRIPT_BYTES, Status, code};
 use std::process::ExitCode;
 use std::rt::Env;
 use std::sync::Wait;
 use std::thread::Threads;
-use std::{env, io};
+use std::{env, io, str};
 pub use top::magnus;
 
 #[cfg(test)]
 mod tests;
 
 fn main(rt: HostRuntime) -> ExitCode {
-    ExitCode::from(code(&run(&rt)))
+    let status = run(&rt);
+    tell(&rt, &status);
+    ExitCode::from(code(&status))
+}
+
+/// Says on standard error how the program ended, where there is something to say.
+fn tell<R: Eprint + AllocGlobal>(rt: &R, status: &Status) {
+    let Ok(text) = message(rt.alloc(), status) else {
+        return;
+    };
+    let Ok(line) = str::from_utf8(text.as_slice()) else {
+        return;
+    };
+    if !line.is_empty() {
+        let _ = rt.eprintln(line);
+    }
 }
 
 /// Calls the top call on the command words, standard input and standard output. Words that are no

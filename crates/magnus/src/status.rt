@@ -2,6 +2,8 @@
 ghost use Rattle.std.specs.Prelude.{◌≡◌};
 ghost use Rattle.magnus.specs.Exit.{exit_of};
 
+use mg_lex::Refused;
+
 /// How many bytes a script may have.
 pub const MOST_SCRIPT_BYTES: usize = 1_048_576;
 
@@ -14,6 +16,10 @@ pub enum Status {
     ReadFault,
     /// The sink failed. What it took is the beginning of an output.
     WriteFault,
+    /// The input is no script, or its names and statements have no meaning. Nothing was written.
+    ScriptRefused(Refused),
+    /// The input has too many bytes. Nothing was written.
+    TooLong,
     /// Want of memory. Nothing was written.
     NoMemory,
     /// The program can't do this yet. Nothing was written.
@@ -30,6 +36,7 @@ pub fn code(status: &Status) -> u8
     match status {
         Status::Done => 0,
         Status::ReadFault | Status::WriteFault => 1,
+        Status::ScriptRefused(_) | Status::TooLong => 3,
         Status::NoMemory => 4,
         Status::NotBuilt { .. } => 6,
     }

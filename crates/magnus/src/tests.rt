@@ -2,6 +2,7 @@ ghost use Rattle.std.specs.Prelude.{◌≤◌};
 
 use super::*;
 use mg_io::{MemorySink, MemorySource};
+use mg_lex::{Cause, Refused};
 use std::sync::Wait;
 use std::test::Fail;
 use std::thread::Threads;
@@ -49,8 +50,10 @@ const NOTHING: &[u8] =
 const NOTHING_REPORT: &[u8] =
     b"report\nfunded 5 purse 5\nquestion q OPEN\ngroup < a | a^2 >\nsubgroup < >\ngoals < a^2 >\nsearch derive granted 0 spent 0 held 0 returned 0 end fresh\nend\n";
 
-const OTHER_FORM: &[u8] =
-    b"group G = < a >\nask q : a^2 = 1 in G\nfund 100\ngrant q derive 21\nrun\nreport\n";
+const REFUSED: &[u8] = b"group G = < a >\nask q : c = 1 in G\n";
+
+const UNBUILT: &[u8] =
+    b"group G = < a >\nask q : a = 1 in G\nfund 100\ngrant q derive 21\ngrant q act 21\nrun\n";
 
 /// Whether a script ends with this status when these calls fail, and this was written then.
 fn ends<R: AllocGlobal + Threads + Wait + Sync>(
@@ -80,8 +83,23 @@ fn all_units_or_none_are_spent(rt: HostRuntime) -> Result<(), Fail> {
 }
 
 #[test]
-fn another_form_is_not_built(rt: HostRuntime) -> Result<(), Fail> {
-    assert!(rt; ends(&rt, OTHER_FORM, &[], &[], Status::NotBuilt { line: 0 }, b"")?);
+fn refused_scripts_are_told(rt: HostRuntime) -> Result<(), Fail> {
+    assert!(rt;
+        ends(
+            &rt,
+            REFUSED,
+            &[],
+            &[],
+            refused_at(2, 9, Cause::UnknownGenerator),
+            b""
+        )?
+    );
+    Ok(())
+}
+
+#[test]
+fn what_is_not_built_is_told(rt: HostRuntime) -> Result<(), Fail> {
+    assert!(rt; ends(&rt, UNBUILT, &[], &[], Status::NotBuilt { line: 5 }, b"")?);
     Ok(())
 }
 
@@ -92,15 +110,75 @@ fn faults_are_told(rt: HostRuntime) -> Result<(), Fail> {
     Ok(())
 }
 
+fn refused_at(line: u32, column: u32, cause: Cause) -> Status {
+    Status::ScriptRefused(Refused {
+        line,
+        column,
+        cause,
+    })
+}
+
+/// Whether a status has this exit status, and this is said of it.
+fn tells<R: AllocGlobal>(rt: &R, status: Status, exit: u8, said: &[u8]) -> Result<bool, Fail> {
+    let text = message(rt.alloc(), &status)?;
+    Ok(code(&status) == exit && text.as_slice() == said)
+}
+
 #[test]
-fn statuses_have_their_exits(rt: HostRuntime) {
-    for (status, exit) in [
-        (Status::Done, 0),
-        (Status::ReadFault, 1),
-        (Status::WriteFault, 1),
-        (Status::NoMemory, 4),
-        (Status::NotBuilt { line: 0 }, 6),
-    ] {
-        assert_eq!(rt; code(&status), exit);
-    }
+fn faults_have_their_exits(rt: HostRuntime) -> Result<(), Fail> {
+    assert!(rt; tells(&rt, Status::Done, 0, b"")?);
+    assert!(rt; tells(&rt, Status::ReadFault, 1, b"magnus: read fault")?);
+    assert!(rt; tells(&rt, Status::WriteFault, 1, b"magnus: write fault")?);
+    Ok(())
+}
+
+#[test]
+fn limits_have_their_exits(rt: HostRuntime) -> Result<(), Fail> {
+    assert!(rt; tells(&rt, Status::TooLong, 3, b"magnus: input too long")?);
+    assert!(rt; tells(&rt, Status::NoMemory, 4, b"magnus: no memory")?);
+    Ok(())
+}
+
+#[test]
+fn refusals_have_their_exits(rt: HostRuntime) -> Result<(), Fail> {
+    let first = refused_at(2, 9, Cause::UnknownGenerator);
+    assert!(rt;
+        tells(
+            &rt,
+            first,
+            3,
+            b"magnus: line 2 column 9: S11 UnknownGenerator"
+        )?
+    );
+    let second = refused_at(10, 65_537, Cause::LineTooLong);
+    assert!(rt;
+        tells(
+            &rt,
+            second,
+            3,
+            b"magnus: line 10 column 65537: S4 LineTooLong"
+        )?
+    );
+    Ok(())
+}
+
+#[test]
+fn lines_that_are_not_built_have_their_exits(rt: HostRuntime) -> Result<(), Fail> {
+    assert!(rt;
+        tells(
+            &rt,
+            Status::NotBuilt { line: 0 },
+            6,
+            b"magnus: line 0: not built"
+        )?
+    );
+    assert!(rt;
+        tells(
+            &rt,
+            Status::NotBuilt { line: 17 },
+            6,
+            b"magnus: line 17: not built"
+        )?
+    );
+    Ok(())
 }

@@ -1,29 +1,19 @@
 //! The top call, which does all that the program does.
-ghost use Rattle.std.specs.Prelude.{◌≡◌, ◌≢◌, ℕ, ◌≤◌, ◌⊎◌, ◌↔◌, List, [], ◌++◌, Some, take, IsTrue, IfSome, IfOk, Err, length};
+ghost use Rattle.std.specs.Prelude.{◌≡◌, ◌≢◌, ℕ, ◌<◌, ◌≤◌, ◌↔◌, List, [], ◌++◌, Some, take, IsTrue, IfSome, length};
 ghost use Rattle.std.specs.Io.KnownBytes.{Appends};
 ghost use Rattle.mg_io.specs.Causes.{Rose};
-ghost use Rattle.magnus.specs.Command.{IsRunCommand, Unbuilt};
-ghost use Rattle.magnus.specs.FormPlan.{IsForm};
-ghost use Rattle.mg_names.specs.Plan.{Plan};
-ghost use Rattle.magnus.specs.Output.{IsOutput, alone};
+ghost use Rattle.mg_session.specs.Built.{one_worker};
+ghost use Rattle.mg_session.specs.Scripts.{IsRefused, IsOutput};
+ghost use Rattle.magnus.specs.Command.{IsRunCommand, Unbuilt, IsBuilt, HasRun, HasRead};
 
-use crate::form::{FormRefused, read_form};
 use crate::gate::Gate;
-use crate::session::run_script;
 use crate::status::{MOST_SCRIPT_BYTES, Status};
 use mg_io::{ReadRefused, Sink, Source, read_all, write_all};
+use mg_lex::Refused;
+use mg_session::{SessionRefused, run_script};
 use std::alloc::Global;
 use std::sync::Wait;
 use std::thread::Threads;
-
-/// Why there is no answer to a script.
-#[derive(Clone, Copy, Debug, PartialEq, Eq)]
-enum NoAnswer {
-    /// The script isn't of the form that is read.
-    NotOfForm,
-    /// Want of memory.
-    NoMemory,
-}
 
 /// Does what the command words ask for: `run` reads a script from the source, runs it and writes its
 /// output to the sink.
@@ -38,21 +28,27 @@ pub fn magnus<X: Threads + Wait + Sync, S: Source, K: Sink, G: Gate + Sync>(
     // Where all went well, the source was read to its end, and what was written is a legal output of
     // the script that it gave.
     ensures headline { result ≡ Status.Done → IfSome (S.left source.old) (λ script. (S.left source.new ≡ Some [])
-        × (output : List ℕ) × IsOutput script alone output × Appends (K.taken sink.old) (K.taken sink.new) output) }
+        × (output : List ℕ) × IsOutput script one_worker output × Appends (K.taken sink.old) (K.taken sink.new) output) }
 
     // A fault is answered only where it was counted, and after a fault of the sink it has taken the
     // beginning of a legal output.
     ensures read_fault { result ≡ Status.ReadFault → Rose (S.faults source.old) (S.faults source.new) }
     ensures write_fault { result ≡ Status.WriteFault → Rose (K.faults sink.old) (K.faults sink.new) }
-    ensures written { result ≡ Status.WriteFault → IfSome (S.left source.old) (λ script. (output : List ℕ) × IsOutput script alone output
+    ensures written { result ≡ Status.WriteFault → IfSome (S.left source.old) (λ script. (output : List ℕ) × IsOutput script one_worker output
         × (n : ℕ) × (n ≤ length output) × Appends (K.taken sink.old) (K.taken sink.new) (take n output)) }
     ensures unwritten { result ≢ Status.Done → result ≢ Status.WriteFault → sink.new ≡ sink.old }
+    ensures quiet_source { result ≢ Status.ReadFault → S.faults source.new ≡ S.faults source.old }
+    ensures quiet_sink { result ≢ Status.WriteFault → K.faults sink.new ≡ K.faults sink.old }
 
-    // What isn't built is told exactly where it is asked for, and nothing is read for other words.
-    ensures not_built { (line : ℕ) → result ≡ Status.NotBuilt line → (IsRunCommand words.now → ⊥) ⊎ IfSome (S.left source.old) (λ script. Unbuilt words.now script line) }
-    ensures line_zero { (line : ℕ) → result ≡ Status.NotBuilt line → line ≡ 0 }
-    ensures built { result ≡ Status.Done → IfSome (S.left source.old) (λ script. (line : ℕ) → Unbuilt words.now script line → ⊥) }
-    ensures built_too { result ≡ Status.WriteFault → IfSome (S.left source.old) (λ script. (line : ℕ) → Unbuilt words.now script line → ⊥) }
+    // A script is refused exactly at the first cause that stands in it, and one that is too long isn't read further.
+    ensures refused { (r : Refused) → result ≡ Status.ScriptRefused r → IfSome (S.left source.old) (λ script. IsRefused script r) }
+    ensures too_long { result ≡ Status.TooLong → IfSome (S.left source.old) (λ script. MOST_SCRIPT_BYTES < length script) }
+    ensures within { IsRunCommand words.now → HasRead result → IfSome (S.left source.old) (λ script. length script ≤ MOST_SCRIPT_BYTES) }
+
+    // What isn't built is told where it is asked for. A script is run only where it has a meaning and asks for
+    // nothing that isn't built. Nothing is read for other words.
+    ensures not_built { (line : ℕ) → result ≡ Status.NotBuilt line → Unbuilt words.now (S.left source.old) line }
+    ensures built { HasRun result → IfSome (S.left source.old) IsBuilt }
     ensures other_words { (IsRunCommand words.now → ⊥) → (result ≡ Status.NotBuilt 0) × (source.new ≡ source.old) }
 {
     if !is_run_command(words) {
@@ -61,13 +57,14 @@ pub fn magnus<X: Threads + Wait + Sync, S: Source, K: Sink, G: Gate + Sync>(
     let script = match read_all(alloc, source, MOST_SCRIPT_BYTES) {
         Ok(bytes) => bytes,
         Err(ReadRefused::Fault) => return Status::ReadFault,
-        Err(ReadRefused::TooLong) => return Status::NotBuilt { line: 0 },
+        Err(ReadRefused::TooLong) => return Status::TooLong,
         Err(ReadRefused::NoMemory) => return Status::NoMemory,
     };
-    let output = match answer(alloc, script.as_slice()) {
+    let output = match run_script(alloc, script.as_slice()) {
         Ok(output) => output,
-        Err(NoAnswer::NotOfForm) => return Status::NotBuilt { line: 0 },
-        Err(NoAnswer::NoMemory) => return Status::NoMemory,
+        Err(SessionRefused::Script(refused)) => return Status::ScriptRefused(refused),
+        Err(SessionRefused::NotBuilt { line }) => return Status::NotBuilt { line },
+        Err(SessionRefused::NoMemory) => return Status::NoMemory,
     };
     match write_all(sink, output.as_slice()) {
         Ok(()) => Status::Done,
@@ -82,21 +79,5 @@ fn is_run_command(words: &[&str]) -> bool
     match words {
         [word] => *word == "run",
         _ => false,
-    }
-}
-
-/// The output of a script.
-fn answer(alloc: Global, script: &[u8]) -> Result<Vec<u8>, NoAnswer>
-    ensures output { IfOk result (λ output. IsOutput script.now alone output.items) }
-    ensures refused { result ≡ Err NoAnswer.NotOfForm → (plan : Plan) → IsForm script.now plan → ⊥ }
-{
-    let script = match read_form(alloc, script) {
-        Ok(script) => script,
-        Err(FormRefused::NotOfForm) => return Err(NoAnswer::NotOfForm),
-        Err(FormRefused::NoMemory) => return Err(NoAnswer::NoMemory),
-    };
-    match run_script(alloc, &script) {
-        Ok(output) => Ok(output),
-        Err(_) => Err(NoAnswer::NoMemory),
     }
 }
