@@ -1,4 +1,7 @@
 pub mod Plan
+pub mod Values
+pub mod Applies
+pub mod IsPlan
 pub mod Named
 pub mod Scope
 pub mod Meaning
