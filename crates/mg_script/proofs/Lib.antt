@@ -4,4 +4,4 @@ pub mod Rests
 pub mod Written
 pub mod Unique
 pub mod Reaches
-mod Trees
+pub mod Trees
