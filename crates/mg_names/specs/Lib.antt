@@ -7,3 +7,4 @@ pub mod Scope
 pub mod Meaning
 pub mod Cause
 pub mod Resolve
+pub mod Within
