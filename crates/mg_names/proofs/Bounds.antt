@@ -113,7 +113,7 @@ pub looked_up : (P : Object → Type 0) (ds : List Declared) (text : List ℕ) (
 looked_up P [] text o all e = absurd cc
 looked_up P (d ∷ ds) text o all e = looked_up_head P (same_text d.name text) d.object o (lookup ds text) all.0 (looked_up P ds text o all.1) e
 
-nil_given : (m : ℕ) → IsGiven m []
+pub nil_given : (m : ℕ) → IsGiven m []
 nil_given m = record { over = tt; reduced = IsReduced-free_form []; short = omega arith }
 
 -- the names of generators are those of the group at the place, if one is there

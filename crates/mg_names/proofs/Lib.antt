@@ -1,3 +1,5 @@
 pub mod Asks
 pub mod Trees
 pub mod Bounds
+pub mod Parts
+pub mod Scopes
