@@ -3,3 +3,4 @@ pub mod Trees
 pub mod Bounds
 pub mod Parts
 pub mod Scopes
+pub mod Lines

@@ -9,11 +9,12 @@ use Rattle.mg_questions.specs.declared.question.Question as questions
 use Rattle.mg_questions.specs.Goals.{group_of, goals_of}
 use Rattle.mg_questions.specs.Asking.{IsGiven, AreGiven, IsFit, AreAllowed}
 use Rattle.mg_script.specs.Count.{IsBoundedTerm}
+use Rattle.mg_script.specs.declared.script.ScriptLine.{ScriptLine}
 use Rattle.mg_names.specs.declared.limits.TheConstants.{ASK_LETTER_LIMIT}
 use Rattle.mg_names.specs.declared.plan.TheConstants.{MOST_SEARCHES}
 use Rattle.mg_names.specs.Plan.{Plan, PlanGroup, PlanQuestion, plain}
 use Rattle.mg_names.specs.IsPlan.{IsStep, GrantsOneOf}
-use Rattle.mg_names.specs.Named.{Word, Relation, relator, equation, Arrow, Question, equal, member, vanishes, central, has, Statement, group, word, subgroup, mapping, ask, fund, grant, run, cancel, report, plain_word}
+use Rattle.mg_names.specs.Named.{Word, Relation, relator, equation, Arrow, Question, equal, member, vanishes, central, has, Statement, group, word, subgroup, mapping, ask, fund, grant, run, cancel, report, plain_word, IsNamed}
 use Rattle.mg_names.specs.Scope.{Object, a_group, a_word, a_subgroup, a_map, a_question, Scope}
 use Rattle.mg_names.specs.Meaning.{ask_for, relations_in}
 
@@ -111,3 +112,9 @@ IsSized (grant n p units) = units ≤ NUMBER_LIMIT
 IsSized (run bound) = IfSome bound (λ units. units ≤ NUMBER_LIMIT)
 IsSized (cancel n p) = Unit {0}
 IsSized (report what) = Unit {0}
+
+-- a line that is a statement within the limits
+pub record IsRead (line : ScriptLine) : Type 0 where
+  pub statement : Statement
+  pub is_named : IsNamed line statement
+  pub sized : IsSized statement
