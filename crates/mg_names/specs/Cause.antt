@@ -14,7 +14,8 @@ use Rattle.mg_questions.specs.Goals.{goals_of}
 use Rattle.mg_script.specs.declared.form.Property.{Property}
 use Rattle.mg_script.specs.declared.form.Property.TheVariants as property
 use Rattle.mg_script.specs.declared.script.ScriptLine.{ScriptLine}
-use Rattle.mg_names.specs.declared.limits.TheConstants.{ASK_LETTER_LIMIT, SEARCH_LIMIT, REWRITE_LIMIT, COSET_LIMIT}
+use Rattle.mg_names.specs.declared.limits.TheConstants.{ASK_LETTER_LIMIT, REWRITE_LIMIT, COSET_LIMIT}
+use Rattle.mg_names.specs.declared.plan.TheConstants.{MOST_SEARCHES}
 use Rattle.mg_names.specs.Plan.{PlanQuestion, Asked, plain}
 use Rattle.mg_names.specs.Named.{Named, Base, named, Word, word_names, Relation, relator, equation, Arrow, Question, equal, member, vanishes, central, has, Statement, group, word, subgroup, mapping, ask, fund, grant, run, cancel, report}
 use Rattle.mg_names.specs.Scope.{Object, a_group, a_word, a_subgroup, a_map, a_question, Declared, Scope, same_text, lookup, generator_place}
@@ -210,9 +211,9 @@ abbrev pub of_procedure : Procedure → List (ℕ × Procedure) → ℕ
 of_procedure p ss = length (filter (λ s. same_procedure s.1 p) ss)
 
 abbrev pub one_more_is_too_many : List (ℕ × Procedure) → Procedure → Bool
-one_more_is_too_many ss procedure.Rewrite = if nat_lt (of_procedure procedure.Rewrite ss) REWRITE_LIMIT then not (nat_lt (length ss) SEARCH_LIMIT) else true
-one_more_is_too_many ss procedure.Cosets = if nat_lt (of_procedure procedure.Cosets ss) COSET_LIMIT then not (nat_lt (length ss) SEARCH_LIMIT) else true
-one_more_is_too_many ss _ = not (nat_lt (length ss) SEARCH_LIMIT)
+one_more_is_too_many ss procedure.Rewrite = if nat_lt (of_procedure procedure.Rewrite ss) REWRITE_LIMIT then not (nat_lt (length ss) MOST_SEARCHES) else true
+one_more_is_too_many ss procedure.Cosets = if nat_lt (of_procedure procedure.Cosets ss) COSET_LIMIT then not (nat_lt (length ss) MOST_SEARCHES) else true
+one_more_is_too_many ss _ = not (nat_lt (length ss) MOST_SEARCHES)
 
 abbrev pub too_many_searches : Scope → Procedure → ℕ → Option Object → List Shown
 too_many_searches scope p place (Some (a_question q)) =

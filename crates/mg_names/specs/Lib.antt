@@ -1,9 +1,10 @@
 pub mod Plan
+pub mod Values
+pub mod Applies
+pub mod IsPlan
 pub mod Named
 pub mod Scope
 pub mod Meaning
 pub mod Cause
 pub mod Resolve
-pub mod Values
-pub mod Applies
-pub mod IsPlan
+pub mod Within

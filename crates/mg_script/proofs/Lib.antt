@@ -4,7 +4,7 @@ pub mod Rests
 pub mod Written
 pub mod Unique
 pub mod Reaches
-mod Trees
+pub mod Trees
 mod LineTokens
 mod LineLexemes
 mod LineCauses
