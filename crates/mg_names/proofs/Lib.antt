@@ -1,6 +1,15 @@
 pub mod Asks
 pub mod Trees
 pub mod Bounds
-pub mod Parts
+pub mod Members
 pub mod Scopes
 pub mod Lines
+pub mod Leasts
+pub mod Lookups
+pub mod Reading
+pub mod Refusals
+pub mod Plans
+pub mod Tails
+pub mod Lengths
+pub mod Parts
+pub mod Pairs

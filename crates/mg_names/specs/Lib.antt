@@ -8,3 +8,9 @@ pub mod Meaning
 pub mod Cause
 pub mod Resolve
 pub mod Within
+pub mod Sign
+pub mod Name
+pub mod Objects
+pub mod Least
+pub mod Reads
+pub mod Searches
