@@ -4,3 +4,8 @@ pub mod Scope
 pub mod Meaning
 pub mod Cause
 pub mod Resolve
+pub mod Sign
+pub mod Name
+pub mod Least
+pub mod Objects
+pub mod Reads

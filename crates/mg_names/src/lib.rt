@@ -1,9 +1,14 @@
 //! Plans: what a script asks for, once its names are resolved. So far these are the definitions.
 #![tactic(auto)]
 
+mod cursor;
+mod home;
 mod laws;
+mod least;
 mod limits;
 mod resolving;
+mod scope;
+mod words;
 
 pub use laws::a_question_asks_once;
 pub use limits::{ASK_LETTER_LIMIT, COSET_LIMIT, REWRITE_LIMIT, SEARCH_LIMIT};
