@@ -1,6 +1,16 @@
 pub mod Asks
+pub mod Members
 pub mod Trees
 pub mod Bounds
-pub mod Parts
 pub mod Scopes
 pub mod Lines
+pub mod Leasts
+pub mod Refusals
+pub mod Plans
+pub mod Lengths
+pub mod Lookups
+pub mod Pairs
+pub mod Parts
+pub mod Reading
+pub mod Signs
+pub mod Tails

@@ -24,8 +24,8 @@ use Rattle.mg_script.specs.Statement as grammar
 use Rattle.mg_script.specs.Statement.{Piece, listed, listed_on, generator_names, relation_pieces, member_pieces, arrow_pieces, bar_pieces, statement_pieces, statement_lexemes, the_mark}
 use Rattle.mg_names.specs.Named.{Word, Relation, relator, equation, Arrow, Question, equal, member, vanishes, central, has, Statement, group, word, subgroup, mapping, ask, fund, grant, run, cancel, report, plain_word, plain_relation, plain_question, plain_statement, IsNamed}
 use Rattle.mg_names.specs.Meaning.{relations_in}
-use Rattle.mg_names.specs.Within.{IsSizedWord, IsSizedRelation, IsSizedQuestion, IsSizedGroup, AreSizedWords, IsSized, IsRead}
-use Rattle.mg_names.proofs.Parts.{all_left, all_right, all_more, all_unmap}
+use Rattle.mg_names.specs.Within.{IsSizedWord, IsSizedRelation, IsSizedQuestion, IsSizedGroup, AreSizedWords, IsSized, IsReadLine}
+use Rattle.mg_names.proofs.Members.{all_left, all_right, all_more, all_unmap}
 use Rattle.mg_names.proofs.Trees.{there_is_one}
 
 -- numbers in a line are not too large
@@ -158,7 +158,7 @@ statement_sized counts after (cancel n p) adds within bounded small = tt
 statement_sized counts after (report what) adds within bounded small = tt
 
 -- a kept line
-kept_is_read : (counts : Counts) (number : ℕ) (line : List ℕ) (kept : ScriptLine) (after : Counts) → IsKept (counted_anew counts) number line kept after → IsRead kept
+kept_is_read : (counts : Counts) (number : ℕ) (line : List ℕ) (kept : ScriptLine) (after : Counts) → IsKept (counted_anew counts) number line kept after → IsReadLine kept
 kept_is_read counts number line kept after h =
     let long : length kept.lexemes ≡ length kept.tokens = AllZip-long (IsLexemeOf line) kept.tokens kept.lexemes h.lexemes in
     let one = there_is_one kept h.statement h.written long in
@@ -172,14 +172,14 @@ kept_is_read counts number line kept after h =
           (subst (λ (g : grammar.Statement). AllByRecursion IsBounded (statement_pieces g)) (sym same) h.bounded) (subst (λ (xs : List Lexeme). AllByRecursion IsSmall xs) (sym one.1.written) small);
     }
 
-kept_are_read : (counts : Counts) (number : ℕ) (lines : List (List ℕ)) (kept : List ScriptLine) (after : Counts) → AreKept counts number lines kept after → AllByRecursion IsRead kept
-kept_are_read counts number [] kept after h = subst (λ (ks : List ScriptLine). AllByRecursion IsRead ks) (sym h.0) tt
+kept_are_read : (counts : Counts) (number : ℕ) (lines : List (List ℕ)) (kept : List ScriptLine) (after : Counts) → AreKept counts number lines kept after → AllByRecursion IsReadLine kept
+kept_are_read counts number [] kept after h = subst (λ (ks : List ScriptLine). AllByRecursion IsReadLine ks) (sym h.0) tt
 kept_are_read counts number (line ∷ lines) kept after h =
     ⊎_elim (λ skipped. kept_are_read counts (number + 1) lines kept after skipped.1)
-    (λ here. subst (λ (ks : List ScriptLine). AllByRecursion IsRead ks) (sym here.3)
+    (λ here. subst (λ (ks : List ScriptLine). AllByRecursion IsReadLine ks) (sym here.3)
     (kept_is_read counts number line here.0 here.2 here.4, kept_are_read here.2 (number + 1) lines here.1 after here.5)) h
 
-pub all_read : (bytes : List ℕ) (script : List ScriptLine) → IsScript bytes script → AllByRecursion IsRead script
+pub all_read : (bytes : List ℕ) (script : List ScriptLine) → IsScript bytes script → AllByRecursion IsReadLine script
 all_read bytes script is = kept_are_read _ 1 is.lines script is.counts is.kept
 
 -- no more lines than bytes

@@ -34,7 +34,7 @@ use Rattle.mg_names.specs.Scope.{Object, a_group, a_word, a_subgroup, a_map, a_q
 use Rattle.mg_names.specs.Meaning.{value, relator_of, relations_in, texts, or_no_group, group_at, image_of_generator, value_or_none, images, held, Asking, property_asked, value_in, equality_asked, membership_asked, kernel_asked, centrality_asked, question_named, ask_for, ask_letters, same_procedure, is_named, named_too, declaring, stepping, with_group, with_question, declares_word, declares_subgroup, declares_map, declares_question, grants, cancels, declared_group, after}
 use Rattle.mg_names.specs.Cause.{Shown, at, taken, in_question, has_long, too_large, too_large_unless, is_empty, has_generator, applies, of_asked, not_applying, of_procedure, one_more_is_too_many, too_many_searches, not_applying_to, not_a_group, not_a_question, third_place, shown}
 use Rattle.mg_names.specs.Within.{IsPlanGroup, IsGroupAt, HasWord, HasWords, HasImages, IsObject, AsksFor, IsScope, IsSizedWord, IsSizedRelation, IsSizedQuestion, IsSizedGroup, AreSizedWords, IsSized}
-use Rattle.mg_names.proofs.Parts.{get_append, get_last, get_past, all_append, all_more, all_map, all_of, all_get, zip_append, zip_more, zip_get, none_left, none_right, none_if, none_unless, contains_head, contains_tail}
+use Rattle.mg_names.proofs.Members.{get_append, get_last, get_past, all_append, all_more, all_map, all_of, all_get, zip_append, zip_more, zip_get, none_left, none_right, none_if, none_unless, contains_head, contains_tail}
 use Rattle.mg_names.proofs.Bounds.{AreNamesAt, looked_up, nil_given, value_given, relator_given}
 
 -- a plan with more groups and questions behind those of another

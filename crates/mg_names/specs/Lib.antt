@@ -7,4 +7,10 @@ pub mod Scope
 pub mod Meaning
 pub mod Cause
 pub mod Resolve
+pub mod Sign
+pub mod Name
+pub mod Least
+pub mod Objects
+pub mod Reads
 pub mod Within
+pub mod Searches

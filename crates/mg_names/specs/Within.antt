@@ -114,7 +114,7 @@ IsSized (cancel n p) = Unit {0}
 IsSized (report what) = Unit {0}
 
 -- a line that is a statement within the limits
-pub record IsRead (line : ScriptLine) : Type 0 where
+pub record IsReadLine (line : ScriptLine) : Type 0 where
   pub statement : Statement
   pub is_named : IsNamed line statement
   pub sized : IsSized statement

@@ -1,12 +1,21 @@
-//! Plans: what a script asks for, once its names are resolved. So far these are the definitions.
+//! Plans: what a script asks for, once its names are resolved.
 #![tactic(auto)]
 
+mod cursor;
+mod home;
 mod laws;
+mod least;
 mod limits;
 mod plan;
 mod resolving;
+mod scope;
+mod searches;
+mod words;
 
-pub use laws::a_question_asks_once;
+pub use laws::{
+    a_plan_asks_its_questions, a_question_asks_once, every_script_has_a_plan_or_a_cause,
+    plans_are_within_bounds,
+};
 pub use limits::{ASK_LETTER_LIMIT, COSET_LIMIT, REWRITE_LIMIT};
 pub use plan::{
     Asked, MOST_SEARCHES, MOST_STEPS, Plan, PlanGroup, PlanGroups, PlanQuestion, PlanQuestions,

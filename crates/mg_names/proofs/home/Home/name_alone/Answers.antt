@@ -1,0 +1,12 @@
+use Rattle.std.proofs.Common.{ℕ, Option, sym, ap, ◌∙◌}
+use Rattle.mg_names.specs.Cause.{no_word}
+use Rattle.mg_names.specs.Name.{named_of}
+use Rattle.mg_names.specs.Scope.{lookup}
+use Rattle.mg_names.proofs.Leasts.{gets_same}
+use Rattle.mg_names.proofs.home.Home.name_alone.Goals as goal
+
+pub returns-in-None-clause-causes : goal.returns-in-None-clause-causes
+returns-in-None-clause-causes c =
+    gets_same _ _ c.args.found.now c.declared.new.found
+    (ap (λ (o : Option ℕ). no_word c.args.self.now.place (named_of c.args.name) (lookup c.args.self.now.names.now c.args.name.text.now) o) (sym c.generator.ensures.place ∙ c.in-None.is))
+    c.declared.ensures.causes
