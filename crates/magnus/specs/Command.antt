@@ -5,7 +5,7 @@ use Rattle.mg_names.specs.Scope.{Scope}
 use Rattle.mg_session.specs.Scripts.{Resolves}
 use Rattle.mg_session.specs.Scripts as session
 use Rattle.magnus.specs.declared.status.Status.{Status}
-use Rattle.magnus.specs.declared.status.Status.TheVariants.{Done, ReadFault, WriteFault, ScriptRefused, TooLong, NoMemory, NotBuilt}
+use Rattle.magnus.specs.declared.status.Status.TheVariants.{Done, WriteFault, ScriptRefused, NotBuilt}
 
 -- the words are the one word `run`
 abbrev pub IsRunCommand : List (Bor (List ℕ)) → Type 0

@@ -2,3 +2,4 @@ pub mod Command
 pub mod Exit
 pub mod Message
 pub mod Answer
+pub mod Spent

@@ -1,24 +1,73 @@
 //! Laws of legal outputs. Each stands on a function without a body.
-ghost use Rattle.std.specs.Prelude.{◌≡◌, ℕ, ◌+◌, ◌≤◌, List, [], Option, Some, IfSome, slice_get};
+ghost use Rattle.std.specs.Prelude.{◌≡◌, ℕ, ◌+◌, ◌≤◌, List, Option, Some, None, IfSome, Contains, slice_get};
 ghost use Rattle.std.specs.List.{AllByRecursion};
 ghost use Rattle.mg_core.specs.declared.entries.Entry.{Entry as EntryOf};
 ghost use Rattle.mg_core.specs.Log.{Settled, KeeperOf};
 ghost use Rattle.mg_numbers.specs.Plain.{First};
-ghost use Rattle.mg_names.specs.Plan.{run};
+ghost use Rattle.mg_ledger.specs.Accounts.{Balanced, HasBalance};
+ghost use Rattle.mg_questions.specs.declared.question.Question.{Question};
+ghost use Rattle.mg_names.specs.Plan.{PlanQuestion, run};
+ghost use Rattle.mg_words.specs.declared.procedure.Procedure.{Procedure};
+ghost use Rattle.mg_report.specs.Report.{QuestionBlock};
 ghost use Rattle.mg_certs.specs.Claim.{Fact};
 ghost use Rattle.mg_certs.specs.Validity.{key_of};
 ghost use Rattle.mg_plain.specs.Plain.{AcceptedBy, Publishes, IsPlain};
 ghost use Rattle.mg_search.specs.Search.{ask_of, procedure_of};
-ghost use Rattle.mg_session.specs.State.{State, SearchState};
+ghost use Rattle.mg_session.specs.State.{State, SearchState, accounts};
+ghost use Rattle.mg_session.specs.Session.{IsThere};
+ghost use Rattle.mg_session.specs.Output.{IsBlock, line_of};
 ghost use Rattle.mg_session.specs.StateOk.{StateOk};
 ghost use Rattle.mg_session.specs.RunOk.{reach};
 ghost use Rattle.mg_session.specs.Built.{one_worker};
 ghost use Rattle.mg_session.specs.Scripts.{IsOutput};
+ghost use Rattle.magnus.specs.Answer.{Answers, Agree};
+ghost use Rattle.magnus.specs.Spent.{HasSpent};
 
 /// In every state behind a legal output each account balances, the funds are in the purse, held or
 /// spent, the log is legal, and each search stands as its entries and the verdicts say.
 pub fn states_are_in_order()
     ensures { (script output : List ℕ) (legal : IsOutput script one_worker output) → AllByRecursion (StateOk legal.scope.plan 1) legal.prints.states }
+{}
+
+/// Behind a legal output, an answer that is printed for a question is true: YES says that what the question asks is so,
+/// over all words of its groups, and NO that it isn't.
+pub fn answers_are_true()
+    ensures { (script output : List ℕ) (legal : IsOutput script one_worker output) (step : ℕ) (state : State) (place : ℕ) (question : Question) (asked : PlanQuestion) (block : QuestionBlock) →
+        slice_get legal.prints.states step ≡ Some state → slice_get legal.scope.questions place ≡ Some question → slice_get legal.scope.plan.questions place ≡ Some asked →
+        IsBlock legal.scope.plan state place asked block → IfSome block.verdict (λ verdict. Answers question verdict.1) }
+{}
+
+/// Two answers to one Ask agree, at whatever steps of whatever two scripts they are printed.
+pub fn no_two_verdicts_contradict()
+    ensures { (script output : List ℕ) (legal : IsOutput script one_worker output) (step : ℕ) (state : State) (place : ℕ) (asked : PlanQuestion) (block : QuestionBlock) →
+        (script' output' : List ℕ) (legal' : IsOutput script' one_worker output') (step' : ℕ) (state' : State) (place' : ℕ) (asked' : PlanQuestion) (block' : QuestionBlock) →
+        slice_get legal.prints.states step ≡ Some state → IsBlock legal.scope.plan state place asked block →
+        slice_get legal'.prints.states step' ≡ Some state' → IsBlock legal'.scope.plan state' place' asked' block' →
+        block.ask ≡ block'.ask → IfSome block.verdict (λ one. IfSome block'.verdict (λ other. Agree one.1 other.1)) }
+{}
+
+/// Behind a legal output, where a report is printed, the units of each search in it are spent, held or returned, and those that
+/// were funded lie in the purse, are held or are spent.
+pub fn units_balance_where_printed()
+    ensures each { (script output : List ℕ) (legal : IsOutput script one_worker output) (step : ℕ) (state : State) (place : ℕ) (asked : PlanQuestion) (block : QuestionBlock) →
+        slice_get legal.prints.states step ≡ Some state → IsBlock legal.scope.plan state place asked block → AllByRecursion (λ line. Balanced line.account) block.searches }
+    ensures whole { (script output : List ℕ) (legal : IsOutput script one_worker output) (step : ℕ) (state : State) →
+        slice_get legal.prints.states step ≡ Some state → HasBalance state.funded state.purse (accounts state.searches) }
+{}
+
+/// What is printed of a question, and so of one that is OPEN, names each of its searches with the units that were granted to
+/// it and those that it spent, holds and returned.
+pub fn open_questions_show_their_units()
+    ensures { (script output : List ℕ) (legal : IsOutput script one_worker output) (state : State) (place : ℕ) (asked : PlanQuestion) (block : QuestionBlock)
+        (procedure : Procedure) (before after : List SearchState) (search : SearchState) →
+        IsBlock legal.scope.plan state place asked block → IsThere state place procedure before search after → Contains block.searches (line_of search) }
+{}
+
+/// Behind a legal output, after a run without a bound each search of an unsettled Ask holds no units, or is over.
+pub fn runs_without_a_bound_spend_all()
+    ensures { (script output : List ℕ) (legal : IsOutput script one_worker output) (step : ℕ) (old new : State) →
+        slice_get legal.scope.plan.steps step ≡ Some (run None) → slice_get legal.prints.states step ≡ Some old → slice_get legal.prints.states (step + 1) ≡ Some new →
+        AllByRecursion (HasSpent new.log) new.searches }
 {}
 
 /// Behind a legal output, where a run has a search whose reach is at least the first accepted number, the Ask of

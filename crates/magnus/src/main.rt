@@ -9,7 +9,11 @@ mod status;
 mod top;
 
 pub use gate::{Gate, NoGate};
-pub use laws::{states_are_in_order, the_first_number_settles};
+pub use laws::{
+    answers_are_true, no_two_verdicts_contradict, open_questions_show_their_units,
+    runs_without_a_bound_spend_all, states_are_in_order, the_first_number_settles,
+    units_balance_where_printed,
+};
 pub use message::message;
 use mg_io::{InputSource, OutputSink};
 pub use status::{MOST_SCRIPT_BYTES, Status, code};

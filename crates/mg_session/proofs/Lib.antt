@@ -13,3 +13,4 @@ pub mod Steps
 pub mod Refused
 pub mod Others
 pub mod Unbuilt
+pub mod Meanings

@@ -1,5 +1,5 @@
 //! Laws of sessions. Each stands on a function without a body, over any sizes of turns.
-ghost use Rattle.std.specs.Prelude.{◌≡◌, ℕ, ◌+◌, ◌<◌, ◌≤◌, true, false, List, Option, Some, IfSome, Contains, length, slice_get};
+ghost use Rattle.std.specs.Prelude.{◌≡◌, ◌⊎◌, ℕ, ◌+◌, ◌<◌, ◌≤◌, true, false, List, Option, Some, IfSome, Contains, length, slice_get};
 ghost use Rattle.std.specs.List.{AllByRecursion};
 ghost use Rattle.mg_core.specs.declared.entries.Entry.{Entry as EntryOf};
 ghost use Rattle.mg_core.specs.Log.{Settled, KeeperOf};
@@ -7,7 +7,10 @@ ghost use Rattle.mg_ledger.specs.declared.ledger.TheConstants.{MOST_FUNDED};
 ghost use Rattle.mg_ledger.specs.Accounts.{Balanced, HasBalance};
 ghost use Rattle.mg_words.specs.declared.procedure.Procedure.{Procedure as ProcedureOf};
 ghost use Rattle.mg_numbers.specs.Plain.{First, NoneAmong};
+ghost use Rattle.mg_script.specs.declared.script.ScriptLine.{ScriptLine};
+ghost use Rattle.mg_script.specs.Script.{IsScript};
 ghost use Rattle.mg_names.specs.Plan.{Plan, PlanQuestion, Step, fund, grant, cancel};
+ghost use Rattle.mg_names.specs.Scope.{Scope};
 ghost use Rattle.mg_certs.specs.Claim.{Fact};
 ghost use Rattle.mg_certs.specs.Validity.{Accepted, IsTrueOf, key_of};
 ghost use Rattle.mg_plain.specs.Plain.{AcceptedBy, Publishes, IsPlain};
@@ -20,8 +23,20 @@ ghost use Rattle.mg_session.specs.Session.{Session, After, IsThere, IsAbsent};
 ghost use Rattle.mg_session.specs.Output.{IsBlock, TextOf, line_of};
 ghost use Rattle.mg_session.specs.StateOk.{StateOk};
 ghost use Rattle.mg_session.specs.RunOk.{RunOk, reach};
+ghost use Rattle.mg_session.specs.Scripts.{Resolves, IsRefused, Unbuilt};
 
+use mg_lex::Refused;
 use mg_workers::Sizes;
+
+/// A script has a meaning or is refused. Bytes have one meaning only, or are refused at one place for one cause, and
+/// never both; and the first line that asks for what isn't built is one.
+pub fn a_meaning_or_a_refusal()
+    ensures some { (bytes : List ℕ) (script : List ScriptLine) → IsScript bytes script → ((scope : Scope) × Resolves bytes scope) ⊎ ((r : Refused) × IsRefused bytes r) }
+    ensures meaning { (bytes : List ℕ) (one other : Scope) → Resolves bytes one → Resolves bytes other → one ≡ other }
+    ensures refusal { (bytes : List ℕ) (r s : Refused) → IsRefused bytes r → IsRefused bytes s → r ≡ s }
+    ensures never_both { (bytes : List ℕ) (scope : Scope) (r : Refused) → Resolves bytes scope → IsRefused bytes r → ⊥ }
+    ensures unbuilt { (bytes : List ℕ) (m n : ℕ) → Unbuilt bytes m → Unbuilt bytes n → m ≡ n }
+{}
 
 /// A session has a state before each step, and one behind the last.
 pub fn sessions_have_a_state_more<P: Sizes>()

@@ -1,9 +1,6 @@
 use Rattle.std.proofs.Common.{◌≡◌, ℕ, List, ap, subst, ◌∙◌}
 use Rattle.std.specs.Prelude.{Err}
-use Rattle.mg_lex.specs.declared.refusal.Refused.{Refused}
-use Rattle.mg_session.specs.Built.{one_worker}
-use Rattle.mg_session.specs.Scripts.{IsRefused, IsOutput}
-use Rattle.mg_session.specs.Scripts as session
+use Rattle.mg_session.specs.Scripts.{IsRefused}
 use Rattle.mg_session.specs.declared.script.SessionRefused.TheVariants.{Script}
 use Rattle.magnus.specs.Command.{IsBuilt}
 use Rattle.magnus.proofs.Answered.{whole_then, is_built}

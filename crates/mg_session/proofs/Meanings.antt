@@ -1,0 +1,59 @@
+-- Bytes have one meaning, or are refused at one place, and never both.
+use Rattle.std.proofs.Common.{◌≡◌, ℕ, List, [], ◌∷◌, ◌++◌, ◌⊎◌, inl, inr, refl, sym, subst, ◌∙◌}
+use Rattle.mg_lex.specs.declared.refusal.Refused.{Refused}
+use Rattle.mg_script.specs.declared.script.ScriptLine.{ScriptLine}
+use Rattle.mg_script.specs.Script.{IsScript}
+use Rattle.mg_script.proofs.Scripts.{one_script}
+use Rattle.mg_script.proofs.Scripts as reading
+use Rattle.mg_names.specs.Scope.{Scope, nothing}
+use Rattle.mg_names.specs.Resolve.{Means, IsPlanOf}
+use Rattle.mg_names.specs.Resolve as names
+use Rattle.mg_names.proofs.Lines.{all_read}
+use Rattle.mg_names.proofs.Refusals as resolving
+use Rattle.mg_session.specs.Scripts.{Resolves, IsRefused, in_reading, in_resolving, UsesOther, UseNone, IsFirstOther, Unbuilt}
+
+pub one_scope : (bytes : List ℕ) (scope other : Scope) → Resolves bytes scope → Resolves bytes other → scope ≡ other
+one_scope bytes scope other a b =
+    resolving.one_end nothing b.script scope other (subst (λ (script : List ScriptLine). Means script scope) (one_script bytes a.script b.script a.read b.read) a.means) b.means
+
+resolved_not_refused : (script : List ScriptLine) (scope : Scope) (r : Refused) → Means script scope → names.IsRefused script r → ⊥
+resolved_not_refused script scope r means refused = resolving.never_both script scope.plan r (scope, means, refl) refused
+
+pub never_both : (bytes : List ℕ) (scope : Scope) (r : Refused) → Resolves bytes scope → IsRefused bytes r → ⊥
+never_both bytes scope r a (in_reading refused) = reading.never_both bytes a.script r a.read refused
+never_both bytes scope r a (in_resolving script read refused) =
+    resolved_not_refused script scope r (subst (λ (s : List ScriptLine). Means s scope) (one_script bytes a.script script a.read read) a.means) refused
+
+pub one_refusal : (bytes : List ℕ) (r s : Refused) → IsRefused bytes r → IsRefused bytes s → r ≡ s
+one_refusal bytes r s (in_reading a) (in_reading b) = reading.one_refusal bytes r s a b
+one_refusal bytes r s (in_reading a) (in_resolving script read b) = absurd (reading.never_both bytes script r read a)
+one_refusal bytes r s (in_resolving script read a) (in_reading b) = absurd (reading.never_both bytes script s read b)
+one_refusal bytes r s (in_resolving script read a) (in_resolving other read_too b) =
+    resolving.one_refusal other r s (subst (λ (t : List ScriptLine). names.IsRefused t r) (one_script bytes script other read read_too) a) b
+
+-- a script has a meaning or is refused
+pub meaning_or_refusal : (bytes : List ℕ) (script : List ScriptLine) → IsScript bytes script → ((scope : Scope) × Resolves bytes scope) ⊎ ((r : Refused) × IsRefused bytes r)
+meaning_or_refusal bytes script read = elim (resolving.plan_or_refusal script (all_read bytes script read)) [
+  | inl planned ↦ inl (planned.1.0, record { script = script; read = read; means = planned.1.1 })
+  | inr refused ↦ inr (refused.0, in_resolving script read refused.1)
+]
+
+-- the first line that uses another procedure is one
+first_is : (front other : List ScriptLine) (line next : ScriptLine) (back rest : List ScriptLine) → front ++ line ∷ back ≡ other ++ next ∷ rest → UseNone front → UseNone other →
+    UsesOther line.lexemes → UsesOther next.lexemes → line ≡ next
+first_is [] [] line next back rest same none none_too uses uses_too = cc same
+first_is [] (x ∷ other) line next back rest same none none_too uses uses_too =
+    let e : line ≡ x = cc same in absurd (none_too.0 (subst (λ (l : ScriptLine). UsesOther l.lexemes) e uses))
+first_is (x ∷ front) [] line next back rest same none none_too uses uses_too =
+    let e : next ≡ x = cc same in absurd (none.0 (subst (λ (l : ScriptLine). UsesOther l.lexemes) e uses_too))
+first_is (x ∷ front) (y ∷ other) line next back rest same none none_too uses uses_too =
+    first_is front other line next back rest (cc same) none.1 none_too.1 uses uses_too
+
+one_first : (script : List ScriptLine) (m n : ℕ) → IsFirstOther script m → IsFirstOther script n → m ≡ n
+one_first script m n a b =
+    let same : a.line ≡ b.line = first_is a.front b.front a.line b.line a.back b.back (sym a.split ∙ b.split) a.first b.first a.uses_other b.uses_other in
+    a.numbered ∙ (cc same ∙ sym b.numbered)
+
+pub one_unbuilt : (bytes : List ℕ) (m n : ℕ) → Unbuilt bytes m → Unbuilt bytes n → m ≡ n
+one_unbuilt bytes m n a b =
+    one_first b.resolves.script m n (subst (λ (script : List ScriptLine). IsFirstOther script m) (one_script bytes a.resolves.script b.resolves.script a.resolves.read b.resolves.read) a.first) b.first
