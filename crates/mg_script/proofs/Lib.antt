@@ -10,3 +10,5 @@ mod LineLexemes
 mod LineCauses
 mod Causes
 mod Scripts
+mod LinesRead
+mod LineByLine

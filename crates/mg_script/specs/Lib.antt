@@ -4,3 +4,5 @@ pub mod Statement
 pub mod Count
 pub mod Cause
 pub mod Script
+pub mod LineRead
+pub mod Parsed

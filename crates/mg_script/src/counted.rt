@@ -2,6 +2,7 @@
 
 ghost use Rattle.std.specs.Prelude.{◌≡◌};
 ghost use Rattle.mg_script.specs.Count.{limit_of};
+ghost use Rattle.mg_script.specs.Script.{no_counts, counted_anew};
 
 /// What is counted in a script. The numbers of generators, relators and subgroup words are those of one
 /// statement, the others those of the whole script.
@@ -55,4 +56,36 @@ pub struct Counts {
     pub members: u32,
     pub reports: u32,
     pub letters: u32,
+}
+
+impl Counts {
+    /// Those before a script.
+    pub(crate) fn none() -> Counts
+        ensures { result ≡ no_counts }
+    {
+        Counts {
+            groups: 0,
+            words: 0,
+            subgroups: 0,
+            maps: 0,
+            questions: 0,
+            generators: 0,
+            relators: 0,
+            members: 0,
+            reports: 0,
+            letters: 0,
+        }
+    }
+
+    /// Those before the next statement: generators, relators and words of subgroups are counted anew.
+    pub(crate) fn anew(self) -> Counts
+        ensures { result ≡ counted_anew self }
+    {
+        Counts {
+            generators: 0,
+            relators: 0,
+            members: 0,
+            ..self
+        }
+    }
 }

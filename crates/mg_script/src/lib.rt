@@ -4,8 +4,10 @@
 mod counted;
 mod form;
 mod laws;
+mod line;
 mod lines;
 mod parsing;
+mod read;
 mod script;
 
 pub use counted::{Counted, Counts, LETTER_LIMIT};
@@ -13,6 +15,7 @@ pub use form::{Printed, Property};
 pub use laws::{a_script_or_a_refusal, one_cut, one_place, one_statement};
 pub use lines::Lines;
 pub use parsing::{ParseRefused, parse};
+pub use read::read_statement;
 pub use script::{Script, ScriptLine};
 
 #[cfg(test)]
