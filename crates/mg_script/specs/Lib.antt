@@ -3,3 +3,5 @@ pub mod Cut
 pub mod Statement
 pub mod Count
 pub mod Cause
+pub mod Grammar
+pub mod Reader

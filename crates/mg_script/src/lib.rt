@@ -2,11 +2,15 @@
 #![tactic(auto)]
 
 mod counted;
+mod fault;
 mod form;
 mod laws;
 mod lines;
+mod reader;
+mod sign;
 
 pub use counted::{Counted, Counts, LETTER_LIMIT};
+pub use fault::StatementFault;
 pub use form::{Printed, Property};
 pub use laws::{one_cut, one_place, one_statement};
 pub use lines::Lines;

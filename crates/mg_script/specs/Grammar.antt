@@ -1,5 +1,5 @@
 -- The grammar of statements from left to right: what may stand behind a beginning.
-use Rattle.std.specs.Prelude.{◌≡◌, ℕ, Option, Some, None, List, [], ◌∷◌}
+use Rattle.std.specs.Prelude.{◌≡◌, ◌⊎◌, ℕ, Option, Some, None, List, [], ◌∷◌}
 use Rattle.mg_lex.specs.declared.keyword.Keyword.{Keyword}
 use Rattle.mg_lex.specs.declared.keyword.Keyword.TheVariants as keyword
 use Rattle.mg_lex.specs.declared.mark.Mark.{Mark}
@@ -7,6 +7,7 @@ use Rattle.mg_lex.specs.declared.mark.Mark.TheVariants as mark
 use Rattle.mg_terms.specs.declared.lexeme.Lexeme.{Lexeme}
 use Rattle.mg_terms.specs.declared.lexeme.Lexeme.TheVariants as lexeme
 use Rattle.mg_terms.specs.Word.{name, bare, Word, single}
+use Rattle.mg_terms.specs.Beginning.{BeginsBase, GoesOn}
 use Rattle.mg_words.specs.declared.procedure.Procedure.{Procedure}
 use Rattle.mg_script.specs.declared.counted.Counted.{Counted}
 use Rattle.mg_script.specs.declared.counted.Counted.TheVariants as counted
@@ -82,6 +83,33 @@ pub data Reads : Rest → List Piece → Type 0 where
   reads_second : (a b : Rest) (ps : List Piece) → Reads b ps → Reads (either a b) ps
   reads_more : (i : Item) (r : Rest) (ps : List Piece) → Reads (comma_then i r) ps → Reads (more i r) ps
   reads_last : (i : Item) (r : Rest) (ps : List Piece) → Reads r ps → Reads (more i r) ps
+
+-- with which lexemes a rest begins, and whether it may be nothing
+abbrev pub Begins : Rest → Lexeme → Type 0
+Begins end x = ⊥
+Begins (sign_then kind c r) x = IsIn c x
+Begins (word_then kind left f) x = BeginsBase x
+Begins (either a b) x = Begins a x ⊎ Begins b x
+Begins (more i r) x = (x ≡ lexeme.Mark mark.Comma) ⊎ Begins r x
+
+abbrev pub CanEnd : Rest → Type 0
+CanEnd end = Unit {0}
+CanEnd (sign_then kind c r) = ⊥
+CanEnd (word_then kind left f) = ⊥
+CanEnd (either a b) = CanEnd a ⊎ CanEnd b
+CanEnd (more i r) = CanEnd r
+
+-- a lexeme behind a list
+abbrev pub EndsList : Lexeme → Type 0
+EndsList x = (x ≡ lexeme.Mark mark.Greater) ⊎ ((x ≡ lexeme.Mark mark.Bar) ⊎ (x ≡ lexeme.Mark mark.CloseSquare))
+
+-- the next lexeme tells what comes, all the way
+abbrev pub Tells : Rest → Type 0
+Tells end = Unit {0}
+Tells (sign_then kind c r) = Tells r
+Tells (word_then kind left f) = (w : Word) → Tells (f w) × ((x : Lexeme) → Begins (f w) x → ¬ GoesOn w x)
+Tells (either a b) = Tells a × Tells b × ((x : Lexeme) → Begins a x → Begins b x → ⊥) × (CanEnd a → CanEnd b → ⊥)
+Tells (more i r) = Tells r × ((x : Lexeme) → Begins r x → EndsList x) × (¬ CanEnd r)
 
 -- the forms of statements behind their keywords
 abbrev pub close_group : Rest

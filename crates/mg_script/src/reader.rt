@@ -1,0 +1,161 @@
+//! Reads the lexemes of a statement from left to right.
+
+ghost use Rattle.std.specs.Prelude.{◌≡◌, ◌×◌, ◌↔◌, ◌+◌, ◌<◌, ◌≤◌, ◌∷◌, [], List as ListOf, Option as OptionOf, None, length, drop, IsTrue, IfSome, IfNone, IfOk, IfErr, OnOk};
+ghost use Rattle.mg_terms.specs.declared.limits.TheConstants.{WORD_LIMIT};
+ghost use Rattle.mg_terms.specs.Word.{Word};
+ghost use Rattle.mg_terms.specs.Read.{IsRead};
+ghost use Rattle.mg_terms.specs.Beginning.{BeginsBase};
+ghost use Rattle.mg_script.specs.declared.counted.Counts.{Counts};
+ghost use Rattle.mg_script.specs.Grammar.{Rest, sign_then, word_then, either, statement_rest};
+ghost use Rattle.mg_script.specs.Reader.{Start, Knows, Brings, BringsWord, Chooses, class_of, signs_then, IsRole, IsNext, NextBegins};
+
+use crate::counted::{Counted, Counts, LETTER_LIMIT};
+use crate::fault::StatementFault;
+use crate::sign::{Expected, Role, Sign};
+use mg_lex::{Cause, Mark};
+use mg_terms::{Lexeme, WORD_LIMIT, WordFault, WordRead, read_word};
+
+/// The lexemes of a statement, so many of which are read, and the counts with those of what is read.
+#[derive(Drop)]
+pub(crate) struct Reader<'a> {
+    pub(crate) lexemes: &'a [Lexeme],
+    pub(crate) place: usize,
+    pub(crate) counts: Counts,
+}
+
+impl<'a> Reader<'a> {
+    pub(crate) fn new(lexemes: &'a [Lexeme], counts: Counts) -> Reader<'a>
+        ensures { Knows (record { lexemes = lexemes.now; counts = counts }) statement_rest result }
+    {
+        Reader {
+            lexemes,
+            place: 0,
+            counts,
+        }
+    }
+
+    /// The next lexeme.
+    pub(crate) fn next(&self) -> Option<Lexeme>
+        ensures some { IfSome result (λ x. (xs : ListOf Lexeme) × (drop self.now.place self.now.lexemes.now ≡ x ∷ xs)) }
+        ensures none { IfNone result (drop self.now.place self.now.lexemes.now ≡ []) }
+        ensures within { IfSome result (λ x. self.now.place < length self.now.lexemes.now) }
+    {
+        self.lexemes.get(self.place).copied()
+    }
+
+    /// Whether the next lexeme may stand there.
+    pub(crate) fn is_next(&self, expected: Expected) -> bool
+        ensures next { IsTrue result ↔ IsNext self.now (class_of expected) }
+        ensures within { IsTrue result → self.now.place < length self.now.lexemes.now }
+    {
+        match self.next() {
+            Some(lexeme) => expected.has(lexeme),
+            None => false,
+        }
+    }
+
+    /// Whether a word begins with the next lexeme.
+    pub(crate) fn begins_word(&self) -> bool
+        ensures next { IsTrue result ↔ NextBegins self.now }
+        ensures within { IsTrue result → self.now.place < length self.now.lexemes.now }
+    {
+        match self.next() {
+            Some(lexeme) => begins_base(lexeme),
+            None => false,
+        }
+    }
+
+    /// A fault at the next lexeme.
+    fn fault(&self, cause: Cause) -> StatementFault
+        ensures { result ≡ record { place = self.now.place; cause = cause } }
+    {
+        StatementFault {
+            place: self.place,
+            cause,
+        }
+    }
+
+    /// Takes the next lexeme, which must be as the sign says.
+    pub(crate) fn sign(&mut self, sign: Sign) -> Result<(), StatementFault>
+        ensures brings { (s : Start) (r : Rest) → Knows s (sign_then sign.counted (class_of sign.expected) r) self.old →
+            Brings s r self.new result }
+        ensures forward { OnOk result (self.new.place ≡ self.old.place + 1) }
+    {
+        if !self.is_next(sign.expected) {
+            return Err(self.fault(Cause::Unexpected));
+        }
+        if self.counts.is_full(sign.counted) {
+            return Err(self.fault(Cause::TooMany));
+        }
+        self.counts = self.counts.with(sign.counted);
+        self.place += 1;
+        Ok(())
+    }
+
+    /// Takes lexemes, one for each sign.
+    pub(crate) fn signs(&mut self, signs: &[Sign]) -> Result<(), StatementFault>
+        ensures brings { (s : Start) (r : Rest) → Knows s (signs_then signs.now r) self.old → Brings s r self.new result }
+        ensures forward { OnOk result (self.old.place ≤ self.new.place) }
+    {
+        for sign in signs {
+            self.sign(*sign)?;
+        }
+        Ok(())
+    }
+
+    /// Takes the next lexeme if it may stand there.
+    pub(crate) fn takes(&mut self, expected: Expected) -> bool
+        ensures chooses { (s : Start) (a b : Rest) → Knows s (either (sign_then None (class_of expected) a) b) self.old →
+            Chooses s a b self.new result }
+        ensures forward { IsTrue result → self.new.place ≡ self.old.place + 1 }
+    {
+        if self.is_next(expected) {
+            self.place += 1;
+            return true;
+        }
+        false
+    }
+
+    /// Takes a word.
+    pub(crate) fn word(&mut self, role: Role) -> Result<WordRead, StatementFault>
+        ensures brings { (s : Start) (kind : OptionOf Counted) (left : OptionOf Word) (f : Word → Rest) → IsRole role kind left →
+            Knows s (word_then kind left f) self.old → BringsWord s f self.new result }
+        ensures forward { OnOk result (self.old.place ≤ self.new.place) }
+    {
+        if !self.begins_word() {
+            return Err(self.fault(Cause::Unexpected));
+        }
+        if self.counts.is_full(role.counted()) {
+            return Err(self.fault(Cause::TooMany));
+        }
+        match read_word(&self.lexemes[self.place..]) {
+            Ok(word) => self.take_word(role, word),
+            Err(fault) => Err(StatementFault {
+                place: self.place + fault.place,
+                cause: fault.cause,
+            }),
+        }
+    }
+
+    /// Takes a word that has been read.
+    fn take_word(&mut self, role: Role, word: WordRead) -> Result<WordRead, StatementFault>
+    {
+        let last = self.place + word.count - 1;
+        if role.left_letters() + word.letters > WORD_LIMIT {
+            return Err(StatementFault {
+                place: last,
+                cause: Cause::WordTooLong,
+            });
+        }
+        if self.counts.letters > LETTER_LIMIT - word.letters {
+            return Err(StatementFault {
+                place: last,
+                cause: Cause::TooMany,
+            });
+        }
+        self.counts = self.counts.with(role.counted());
+        self.counts.letters += word.letters;
+        self.place += word.count;
+        Ok(word)
+    }
+}
