@@ -8,8 +8,9 @@ use Rattle.mg_lex.specs.Cause.{cause_number}
 use Rattle.mg_terms.specs.declared.lexeme.Lexeme.{Lexeme}
 use Rattle.mg_terms.specs.Event.{Event, opens, ends}
 use Rattle.mg_terms.specs.Cause as words
-use Rattle.mg_script.specs.Statement.{Piece, sign, term, pieces_lexemes}
-use Rattle.mg_script.specs.Cause.{IsBeginning, IsReach, Shows, Stands, IsFirstCause}
+use Rattle.mg_script.specs.declared.counted.Counts.{Counts}
+use Rattle.mg_script.specs.Statement.{Piece}
+use Rattle.mg_script.specs.Cause.{IsBeginning, IsReach, Shows, one_sign_too_many, one_word_too_many, in_word, long_relation, too_many_letters, Stands, IsFirstCause}
 
 -- no beginning is longer than a reach
 pub shorter : (xs ys : List Lexeme) → IsBeginning (xs ++ ys) → IsBeginning xs
@@ -42,24 +43,26 @@ event_known : (e : Event) (p : ℕ) (c : Cause) → words.Shows e p c → IsKnow
 event_known (opens place depth) p c shows = subst IsKnown (sym shows.0) refl
 event_known (ends count letters) p c shows = subst IsKnown (sym shows.0) refl
 
-piece_known : (xs : List Lexeme) (k : ℕ) (piece : Piece) (p : ℕ) (c : Cause) → Shows xs k piece p c → IsKnown c
-piece_known xs k (sign x) p c shows = absurd shows
-piece_known xs k (term left w) p c shows =
-    ⊎_elim (λ word. let shown = word.2 in event_known shown.event word.0 c shown.shows) (λ relation. subst IsKnown (sym relation.0) refl) shows
+piece_known : (counts : Counts) (xs : List Lexeme) (front : List Piece) (piece : Piece) (p : ℕ) (c : Cause) → Shows counts xs front piece p c → IsKnown c
+piece_known _ _ _ _ _ _ (one_sign_too_many kind x p at over) = refl
+piece_known _ _ _ _ _ _ (one_word_too_many kind left w p at over) = refl
+piece_known _ _ _ _ _ _ (in_word kind left w p q c at shown) = event_known shown.event q c shown.shows
+piece_known _ _ _ _ _ _ (long_relation kind u v p whole long) = refl
+piece_known _ _ _ _ _ _ (too_many_letters kind left w p whole many) = refl
 
-known : (xs : List Lexeme) (p : ℕ) (c : Cause) → Stands xs p c → IsKnown c
-known xs p c stands =
+known : (counts : Counts) (xs : List Lexeme) (p : ℕ) (c : Cause) → Stands counts xs p c → IsKnown c
+known counts xs p c stands =
     ⊎_elim (λ unexpected. subst IsKnown (sym unexpected.0) refl)
-    (λ shown. piece_known xs (length (pieces_lexemes shown.front)) shown.piece p c shown.shows) stands
+    (λ shown. piece_known counts xs shown.front shown.piece p c shown.shows) stands
 
-pub one_first : (xs : List Lexeme) (p q : ℕ) (c d : Cause) → IsFirstCause xs p c → IsFirstCause xs q d → (p ≡ q) × (c ≡ d)
-one_first xs p q c d a b =
+pub one_first : (counts : Counts) (xs : List Lexeme) (p q : ℕ) (c d : Cause) → IsFirstCause counts xs p c → IsFirstCause counts xs q d → (p ≡ q) × (c ≡ d)
+one_first counts xs p q c d a b =
     let up = a.first q d b.stands in
     let down = b.first p c a.stands in
     ⊎_elim (λ less. ⊎_elim (λ more. absurd (omega arith)) (λ same. absurd (omega (arith, same.0))) down)
     (λ same. ⊎_elim (λ more. absurd (omega (arith, same.0)))
     (λ back.
     let numbers : cause_number c ≡ cause_number d = omega (arith, same.1, back.1) in
-    (same.0, sym (known xs p c a.stands) ∙ ap cause_of numbers ∙ known xs q d b.stands))
+    (same.0, sym (known counts xs p c a.stands) ∙ ap cause_of numbers ∙ known counts xs q d b.stands))
     down)
     up

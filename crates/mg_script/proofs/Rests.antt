@@ -7,8 +7,10 @@ use Rattle.mg_terms.specs.declared.lexeme.Lexeme.TheVariants as lexeme
 use Rattle.mg_terms.specs.Word.{Base, name, one, round, commutator, Factor, bare, power, Word, single, times, minus_lexemes, star_lexemes, base_lexemes, factor_lexemes, word_lexemes}
 use Rattle.mg_terms.specs.Beginning.{BeginsBase}
 use Rattle.mg_words.specs.declared.procedure.Procedure.TheVariants as procedure
+use Rattle.mg_script.specs.declared.counted.Counted.{Counted}
+use Rattle.mg_script.specs.declared.counted.Counted.TheVariants as counted
 use Rattle.mg_script.specs.declared.form.Property.TheVariants as property
-use Rattle.mg_script.specs.Statement.{Relation, relator, equation, Piece, sign, term, pieces_lexemes, a_name, a_word, the_mark, listed_on, listed, relation_pieces, arrow_pieces, name_alone}
+use Rattle.mg_script.specs.Statement.{Relation, relator, equation, Piece, sign, term, pieces_lexemes, counted_name, a_word, the_mark, listed_on, listed, relation_pieces, member_pieces, arrow_pieces, name_alone}
 use Rattle.mg_script.proofs.Grammar.{Item, listed_name, listed_word, listed_relation, listed_arrow, Class, this, a_number, a_procedure, a_property, IsIn, relation_then, Rest, end, sign_then, word_then, either, more, mark_then, item_then, comma_then, list_then, Reads, reads_end, reads_sign, reads_word, reads_first, reads_second, reads_more, reads_last}
 
 -- a lexeme of a class
@@ -21,23 +23,23 @@ one_of a_property = (lexeme.Keyword keyword.Trivial, (property.Trivial, refl))
 -- some pieces are such a rest
 pub sample : (r : Rest) → (ps : List Piece) × Reads r ps
 sample end = ([], reads_end)
-sample (sign_then c r) = let x = one_of c in let s = sample r in (sign x.0 ∷ s.0, reads_sign c r x.0 s.0 x.1 s.1)
-sample (word_then left f) = let s = sample (f name_alone) in (term left name_alone ∷ s.0, reads_word left f name_alone s.0 s.1)
+sample (sign_then kind c r) = let x = one_of c in let s = sample r in (sign kind x.0 ∷ s.0, reads_sign kind c r x.0 s.0 x.1 s.1)
+sample (word_then kind left f) = let s = sample (f name_alone) in (term kind left name_alone ∷ s.0, reads_word kind left f name_alone s.0 s.1)
 sample (either a b) = let s = sample a in (s.0, reads_first a b s.0 s.1)
 sample (more i r) = let s = sample r in (s.0, reads_last i r s.0 s.1)
 
 -- with which lexemes a rest begins, and whether it may be nothing
 abbrev pub Begins : Rest → Lexeme → Type 0
 Begins end x = ⊥
-Begins (sign_then c r) x = IsIn c x
-Begins (word_then left f) x = BeginsBase x
+Begins (sign_then kind c r) x = IsIn c x
+Begins (word_then kind left f) x = BeginsBase x
 Begins (either a b) x = Begins a x ⊎ Begins b x
 Begins (more i r) x = (x ≡ lexeme.Mark mark.Comma) ⊎ Begins r x
 
 abbrev pub CanEnd : Rest → Type 0
 CanEnd end = Unit {0}
-CanEnd (sign_then c r) = ⊥
-CanEnd (word_then left f) = ⊥
+CanEnd (sign_then kind c r) = ⊥
+CanEnd (word_then kind left f) = ⊥
 CanEnd (either a b) = CanEnd a ⊎ CanEnd b
 CanEnd (more i r) = CanEnd r
 
@@ -65,8 +67,8 @@ mutual
 
 pub reads_begins : (r : Rest) (ps : List Piece) → Reads r ps → (x : Lexeme) (ys : List Lexeme) → pieces_lexemes ps ≡ x ∷ ys → Begins r x
 reads_begins _ _ reads_end x ys e = absurd cc
-reads_begins _ _ (reads_sign c r y ps in_class reads) x ys e = let same : y ≡ x = cc in subst (IsIn c) same in_class
-reads_begins _ _ (reads_word left f w ps reads) x ys e =
+reads_begins _ _ (reads_sign kind c r y ps in_class reads) x ys e = let same : y ≡ x = cc in subst (IsIn c) same in_class
+reads_begins _ _ (reads_word kind left f w ps reads) x ys e =
     let h = word_first w in
     let heads : h.0 ∷ (h.1 ++ pieces_lexemes ps) ≡ x ∷ ys = ap (λ zs. zs ++ pieces_lexemes ps) (sym h.2) ∙ e in
     let same : h.0 ≡ x = cc in subst BeginsBase same h.3
@@ -77,8 +79,8 @@ reads_begins _ _ (reads_last i r ps reads) x ys e = inr (reads_begins r ps reads
 
 pub reads_nothing : (r : Rest) (ps : List Piece) → Reads r ps → pieces_lexemes ps ≡ [] → CanEnd r
 reads_nothing _ _ reads_end e = tt
-reads_nothing _ _ (reads_sign c r y ps in_class reads) e = absurd cc
-reads_nothing _ _ (reads_word left f w ps reads) e =
+reads_nothing _ _ (reads_sign kind c r y ps in_class reads) e = absurd cc
+reads_nothing _ _ (reads_word kind left f w ps reads) e =
     let h = word_first w in
     let heads : h.0 ∷ (h.1 ++ pieces_lexemes ps) ≡ [] = ap (λ zs. zs ++ pieces_lexemes ps) (sym h.2) ∙ e in
     absurd cc
@@ -91,27 +93,27 @@ reads_nothing _ _ (reads_last i r ps reads) e = reads_nothing r ps reads e
 pub end_inv : (ps : List Piece) → Reads end ps → ps ≡ []
 end_inv _ reads_end = refl
 
-pub record SignRead (c : Class) (r : Rest) (ps : List Piece) : Type 0 where
+pub record SignRead (kind : Option Counted) (c : Class) (r : Rest) (ps : List Piece) : Type 0 where
   pub lexeme : Lexeme
   pub others : List Piece
-  pub split : ps ≡ sign lexeme ∷ others
+  pub split : ps ≡ sign kind lexeme ∷ others
   pub in_class : IsIn c lexeme
   pub reads : Reads r others
 
-pub sign_inv : (c : Class) (r : Rest) (ps : List Piece) → Reads (sign_then c r) ps → SignRead c r ps
-sign_inv _ _ _ (reads_sign c r x ps in_class reads) = record { lexeme = x; others = ps; split = refl; in_class = in_class; reads = reads }
+pub sign_inv : (kind : Option Counted) (c : Class) (r : Rest) (ps : List Piece) → Reads (sign_then kind c r) ps → SignRead kind c r ps
+sign_inv _ _ _ _ (reads_sign kind c r x ps in_class reads) = record { lexeme = x; others = ps; split = refl; in_class = in_class; reads = reads }
 
-pub this_inv : (y : Lexeme) (r : Rest) (ps : List Piece) → Reads (sign_then (this y) r) ps → (qs : List Piece) × (ps ≡ sign y ∷ qs) × Reads r qs
-this_inv y r ps reads = let h = sign_inv (this y) r ps reads in (h.others, h.split ∙ ap (λ x. sign x ∷ h.others) h.in_class, h.reads)
+pub this_inv : (kind : Option Counted) (y : Lexeme) (r : Rest) (ps : List Piece) → Reads (sign_then kind (this y) r) ps → (qs : List Piece) × (ps ≡ sign kind y ∷ qs) × Reads r qs
+this_inv kind y r ps reads = let h = sign_inv kind (this y) r ps reads in (h.others, h.split ∙ ap (λ x. sign kind x ∷ h.others) h.in_class, h.reads)
 
-pub record WordRead (left : Option Word) (f : Word → Rest) (ps : List Piece) : Type 0 where
+pub record WordRead (kind : Option Counted) (left : Option Word) (f : Word → Rest) (ps : List Piece) : Type 0 where
   pub word : Word
   pub others : List Piece
-  pub split : ps ≡ term left word ∷ others
+  pub split : ps ≡ term kind left word ∷ others
   pub reads : Reads (f word) others
 
-pub word_inv : (left : Option Word) (f : Word → Rest) (ps : List Piece) → Reads (word_then left f) ps → WordRead left f ps
-word_inv _ _ _ (reads_word left f w ps reads) = record { word = w; others = ps; split = refl; reads = reads }
+pub word_inv : (kind : Option Counted) (left : Option Word) (f : Word → Rest) (ps : List Piece) → Reads (word_then kind left f) ps → WordRead kind left f ps
+word_inv _ _ _ _ (reads_word kind left f w ps reads) = record { word = w; others = ps; split = refl; reads = reads }
 
 pub either_inv : (a b : Rest) (ps : List Piece) → Reads (either a b) ps → Reads a ps ⊎ Reads b ps
 either_inv _ _ _ (reads_first a b ps reads) = inl reads
@@ -121,8 +123,8 @@ pub more_cases : (i : Item) (r : Rest) (ps : List Piece) → Reads (more i r) ps
 more_cases _ _ _ (reads_more i r ps reads) = inl reads
 more_cases _ _ _ (reads_last i r ps reads) = inr reads
 
-pub reads_this : (y : Lexeme) (r : Rest) (ps : List Piece) → Reads r ps → Reads (sign_then (this y) r) (sign y ∷ ps)
-reads_this y r ps reads = reads_sign (this y) r y ps refl reads
+pub reads_this : (kind : Option Counted) (y : Lexeme) (r : Rest) (ps : List Piece) → Reads r ps → Reads (sign_then kind (this y) r) (sign kind y ∷ ps)
+reads_this kind y r ps reads = reads_sign kind (this y) r y ps refl reads
 
 -- what a member of a list is, and how it is written
 abbrev pub Value : Item → Type 0
@@ -131,73 +133,73 @@ Value listed_word = Word
 Value listed_relation = Relation
 Value listed_arrow = Word
 
-abbrev pub member_pieces : (i : Item) → Value i → List Piece
-member_pieces listed_name = λ u. a_name ∷ []
-member_pieces listed_word = λ w. a_word w ∷ []
-member_pieces listed_relation = relation_pieces
-member_pieces listed_arrow = arrow_pieces
+abbrev pub item_pieces : (i : Item) → Value i → List Piece
+item_pieces listed_name = λ u. counted_name counted.Generators ∷ []
+item_pieces listed_word = member_pieces
+item_pieces listed_relation = relation_pieces
+item_pieces listed_arrow = arrow_pieces
 
 abbrev pub more_pieces : (i : Item) → List (Value i) → List Piece
-more_pieces i vs = listed_on (map (member_pieces i) vs)
+more_pieces i vs = listed_on (map (item_pieces i) vs)
 
 abbrev pub list_pieces : (i : Item) → List (Value i) → List Piece
-list_pieces i vs = listed (map (member_pieces i) vs)
+list_pieces i vs = listed (map (item_pieces i) vs)
 
 relation_reads : (v : Relation) (r : Rest) (ps : List Piece) → Reads r ps → Reads (relation_then r) (relation_pieces v ++ ps)
 relation_reads (relator u) r ps reads =
-    reads_word None _ u ps (reads_second (mark_then mark.Equals (word_then (Some u) (λ v. r))) r ps reads)
+    reads_word (Some counted.Relators) None _ u ps (reads_second (mark_then mark.Equals (word_then None (Some u) (λ v. r))) r ps reads)
 relation_reads (equation u v) r ps reads =
-    reads_word None _ u (the_mark mark.Equals ∷ term (Some u) v ∷ ps)
-    (reads_first (mark_then mark.Equals (word_then (Some u) (λ w. r))) r (the_mark mark.Equals ∷ term (Some u) v ∷ ps)
-    (reads_this (lexeme.Mark mark.Equals) (word_then (Some u) (λ w. r)) (term (Some u) v ∷ ps) (reads_word (Some u) (λ w. r) v ps reads)))
+    reads_word (Some counted.Relators) None _ u (the_mark mark.Equals ∷ term None (Some u) v ∷ ps)
+    (reads_first (mark_then mark.Equals (word_then None (Some u) (λ w. r))) r (the_mark mark.Equals ∷ term None (Some u) v ∷ ps)
+    (reads_this None (lexeme.Mark mark.Equals) (word_then None (Some u) (λ w. r)) (term None (Some u) v ∷ ps) (reads_word None (Some u) (λ w. r) v ps reads)))
 
-pub item_reads : (i : Item) (v : Value i) (r : Rest) (ps : List Piece) → Reads r ps → Reads (item_then i r) (member_pieces i v ++ ps)
-item_reads listed_name v r ps reads = reads_this lexeme.Name r ps reads
-item_reads listed_word v r ps reads = reads_word None (λ w. r) v ps reads
+pub item_reads : (i : Item) (v : Value i) (r : Rest) (ps : List Piece) → Reads r ps → Reads (item_then i r) (item_pieces i v ++ ps)
+item_reads listed_name v r ps reads = reads_this (Some counted.Generators) lexeme.Name r ps reads
+item_reads listed_word v r ps reads = reads_word (Some counted.Members) None (λ w. r) v ps reads
 item_reads listed_relation v r ps reads = relation_reads v r ps reads
 item_reads listed_arrow v r ps reads =
-    reads_this lexeme.Name (mark_then mark.Arrow (word_then None (λ w. r))) (the_mark mark.Arrow ∷ a_word v ∷ ps)
-    (reads_this (lexeme.Mark mark.Arrow) (word_then None (λ w. r)) (a_word v ∷ ps) (reads_word None (λ w. r) v ps reads))
+    reads_this None lexeme.Name (mark_then mark.Arrow (word_then None None (λ w. r))) (the_mark mark.Arrow ∷ a_word v ∷ ps)
+    (reads_this None (lexeme.Mark mark.Arrow) (word_then None None (λ w. r)) (a_word v ∷ ps) (reads_word None None (λ w. r) v ps reads))
 
 pub record ItemRead (i : Item) (r : Rest) (ps : List Piece) : Type 0 where
   pub value : Value i
   pub others : List Piece
-  pub split : ps ≡ member_pieces i value ++ others
+  pub split : ps ≡ item_pieces i value ++ others
   pub reads : Reads r others
 
 relation_inv : (r : Rest) (ps : List Piece) → Reads (relation_then r) ps → ItemRead listed_relation r ps
 relation_inv r ps reads =
-    let h = word_inv None (λ u. either (mark_then mark.Equals (word_then (Some u) (λ v. r))) r) ps reads in
+    let h = word_inv (Some counted.Relators) None (λ u. either (mark_then mark.Equals (word_then None (Some u) (λ v. r))) r) ps reads in
     ⊎_elim (λ left.
-    let k = this_inv (lexeme.Mark mark.Equals) (word_then (Some h.word) (λ v. r)) h.others left in
-    let l = word_inv (Some h.word) (λ v. r) k.0 k.2 in
+    let k = this_inv None (lexeme.Mark mark.Equals) (word_then None (Some h.word) (λ v. r)) h.others left in
+    let l = word_inv None (Some h.word) (λ v. r) k.0 k.2 in
     record { value = equation h.word l.word; others = l.others; split = cc (h.split, k.1, l.split); reads = l.reads })
     (λ other. record { value = relator h.word; others = h.others; split = h.split; reads = other })
-    (either_inv (mark_then mark.Equals (word_then (Some h.word) (λ v. r))) r h.others h.reads)
+    (either_inv (mark_then mark.Equals (word_then None (Some h.word) (λ v. r))) r h.others h.reads)
 
 pub item_inv : (i : Item) (r : Rest) (ps : List Piece) → Reads (item_then i r) ps → ItemRead i r ps
-item_inv listed_name r ps reads = let h = this_inv lexeme.Name r ps reads in record { value = tt; others = h.0; split = h.1; reads = h.2 }
-item_inv listed_word r ps reads = let h = word_inv None (λ w. r) ps reads in record { value = h.word; others = h.others; split = h.split; reads = h.reads }
+item_inv listed_name r ps reads = let h = this_inv (Some counted.Generators) lexeme.Name r ps reads in record { value = tt; others = h.0; split = h.1; reads = h.2 }
+item_inv listed_word r ps reads = let h = word_inv (Some counted.Members) None (λ w. r) ps reads in record { value = h.word; others = h.others; split = h.split; reads = h.reads }
 item_inv listed_relation r ps reads = relation_inv r ps reads
 item_inv listed_arrow r ps reads =
-    let h = this_inv lexeme.Name (mark_then mark.Arrow (word_then None (λ w. r))) ps reads in
-    let k = this_inv (lexeme.Mark mark.Arrow) (word_then None (λ w. r)) h.0 h.2 in
-    let l = word_inv None (λ w. r) k.0 k.2 in
+    let h = this_inv None lexeme.Name (mark_then mark.Arrow (word_then None None (λ w. r))) ps reads in
+    let k = this_inv None (lexeme.Mark mark.Arrow) (word_then None None (λ w. r)) h.0 h.2 in
+    let l = word_inv None None (λ w. r) k.0 k.2 in
     record { value = l.word; others = l.others; split = cc (h.1, k.1, l.split); reads = l.reads }
 
 pub more_reads : (i : Item) (vs : List (Value i)) (r : Rest) (ps : List Piece) → Reads r ps → Reads (more i r) (more_pieces i vs ++ ps)
 more_reads i [] r ps reads = reads_last i r ps reads
 more_reads i (v ∷ vs) r ps reads =
     reads_more i r (more_pieces i (v ∷ vs) ++ ps)
-    (reads_this (lexeme.Mark mark.Comma) (item_then i (more i r)) ((member_pieces i v ++ more_pieces i vs) ++ ps)
-    (subst (Reads (item_then i (more i r))) (sym (append_assoc (member_pieces i v) (more_pieces i vs) ps))
+    (reads_this None (lexeme.Mark mark.Comma) (item_then i (more i r)) ((item_pieces i v ++ more_pieces i vs) ++ ps)
+    (subst (Reads (item_then i (more i r))) (sym (append_assoc (item_pieces i v) (more_pieces i vs) ps))
     (item_reads i v (more i r) (more_pieces i vs ++ ps) (more_reads i vs r ps reads))))
 
 pub list_reads : (i : Item) (vs : List (Value i)) (r : Rest) (ps : List Piece) → Reads r ps → Reads (list_then i r) (list_pieces i vs ++ ps)
 list_reads i [] r ps reads = reads_second (item_then i (more i r)) r ps reads
 list_reads i (v ∷ vs) r ps reads =
     reads_first (item_then i (more i r)) r (list_pieces i (v ∷ vs) ++ ps)
-    (subst (Reads (item_then i (more i r))) (sym (append_assoc (member_pieces i v) (more_pieces i vs) ps))
+    (subst (Reads (item_then i (more i r))) (sym (append_assoc (item_pieces i v) (more_pieces i vs) ps))
     (item_reads i v (more i r) (more_pieces i vs ++ ps) (more_reads i vs r ps reads)))
 
 pub record ListRead (i : Item) (r : Rest) (ps : List Piece) (write : List (Value i) → List Piece) : Type 0 where
@@ -206,14 +208,14 @@ pub record ListRead (i : Item) (r : Rest) (ps : List Piece) (write : List (Value
   pub split : ps ≡ write values ++ others
   pub reads : Reads r others
 
-more_step : (i : Item) (r : Rest) (ps : List Piece) → Reads (comma_then i r) ps → (v : Value i) × (qs : List Piece) × (ps ≡ the_mark mark.Comma ∷ (member_pieces i v ++ qs)) × Reads (more i r) qs
+more_step : (i : Item) (r : Rest) (ps : List Piece) → Reads (comma_then i r) ps → (v : Value i) × (qs : List Piece) × (ps ≡ the_mark mark.Comma ∷ (item_pieces i v ++ qs)) × Reads (more i r) qs
 more_step i r ps reads =
-    let h = this_inv (lexeme.Mark mark.Comma) (item_then i (more i r)) ps reads in
+    let h = this_inv None (lexeme.Mark mark.Comma) (item_then i (more i r)) ps reads in
     let k = item_inv i (more i r) h.0 h.2 in
     (k.value, k.others, h.1 ∙ ap (λ xs. the_mark mark.Comma ∷ xs) k.split, k.reads)
 
-shorter : (i : Item) (v : Value i) (ps qs : List Piece) → ps ≡ the_mark mark.Comma ∷ (member_pieces i v ++ qs) → length qs < length ps
-shorter i v ps qs e = omega (arith, ap length e, length-append (member_pieces i v) qs)
+shorter : (i : Item) (v : Value i) (ps qs : List Piece) → ps ≡ the_mark mark.Comma ∷ (item_pieces i v ++ qs) → length qs < length ps
+shorter i v ps qs e = omega (arith, ap length e, length-append (item_pieces i v) qs)
 
 more_list : (n : ℕ) (i : Item) (r : Rest) (ps : List Piece) → length ps < n → Reads (more i r) ps → ListRead i r ps (more_pieces i)
 more_list zero i r ps short reads = absurd (omega (arith, short))
@@ -225,7 +227,7 @@ more_list (suc n) i r ps short reads =
     record {
       values = h.0 ∷ k.values;
       others = k.others;
-      split = h.2 ∙ ap (λ xs. the_mark mark.Comma ∷ (member_pieces i h.0 ++ xs)) k.split ∙ ap (λ xs. the_mark mark.Comma ∷ xs) (sym (append_assoc (member_pieces i h.0) (more_pieces i k.values) k.others));
+      split = h.2 ∙ ap (λ xs. the_mark mark.Comma ∷ (item_pieces i h.0 ++ xs)) k.split ∙ ap (λ xs. the_mark mark.Comma ∷ xs) (sym (append_assoc (item_pieces i h.0) (more_pieces i k.values) k.others));
       reads = k.reads;
     })
     (λ last. record { values = []; others = ps; split = refl; reads = last })
@@ -242,7 +244,7 @@ list_inv i r ps reads =
     record {
       values = h.value ∷ k.values;
       others = k.others;
-      split = h.split ∙ ap (λ xs. member_pieces i h.value ++ xs) k.split ∙ sym (append_assoc (member_pieces i h.value) (more_pieces i k.values) k.others);
+      split = h.split ∙ ap (λ xs. item_pieces i h.value ++ xs) k.split ∙ sym (append_assoc (item_pieces i h.value) (more_pieces i k.values) k.others);
       reads = k.reads;
     })
     (λ last. record { values = []; others = ps; split = refl; reads = last })

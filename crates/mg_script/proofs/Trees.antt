@@ -9,9 +9,9 @@ use Rattle.mg_script.specs.declared.form.Property.{Property}
 use Rattle.mg_script.specs.declared.form.Property.TheVariants as property
 use Rattle.mg_script.specs.declared.form.Printed.{Printed}
 use Rattle.mg_script.specs.declared.form.Printed.TheVariants as printed
-use Rattle.mg_script.specs.Statement.{Relation, relator, equation, Question, equal, member, vanishes, central, has, Statement, group, word, subgroup, mapping, ask, fund, grant, run, cancel, report, Piece, term, the_mark, listed, names, relation_pieces, bar_pieces, property_keyword, procedure_keyword, question_pieces, bound_pieces, printed_pieces, statement_pieces, statement_lexemes}
+use Rattle.mg_script.specs.Statement.{Relation, relator, equation, Question, equal, member, vanishes, central, has, Statement, group, word, subgroup, mapping, ask, fund, grant, run, cancel, report, Piece, term, the_mark, listed, generator_names, relation_pieces, bar_pieces, property_keyword, procedure_keyword, question_pieces, bound_pieces, printed_pieces, statement_pieces, statement_lexemes}
 use Rattle.mg_script.proofs.Grammar.{Item, listed_name, listed_word, listed_relation, listed_arrow}
-use Rattle.mg_script.proofs.Rests.{Value, member_pieces, more_pieces, list_pieces}
+use Rattle.mg_script.proofs.Rests.{Value, item_pieces, more_pieces, list_pieces}
 use Rattle.mg_script.proofs.Written.{units, names_units}
 use Rattle.mg_script.proofs.Unique.{one_writing}
 
@@ -77,13 +77,13 @@ one_relation : (v w : Relation) (ps qs : List Piece) → relation_pieces v ++ ps
 one_relation (relator u) (relator v) ps qs e first second = (cc, cc)
 one_relation (equation u v) (equation u' v') ps qs e first second = (cc, cc)
 one_relation (relator u) (equation u' v) ps qs e first second =
-    let tails : ps ≡ the_mark mark.Equals ∷ term (Some u') v ∷ qs = cc in
-    absurd (no_equals (term (Some u') v ∷ qs) (subst GoOn tails first))
+    let tails : ps ≡ the_mark mark.Equals ∷ term None (Some u') v ∷ qs = cc in
+    absurd (no_equals (term None (Some u') v ∷ qs) (subst GoOn tails first))
 one_relation (equation u v) (relator u') ps qs e first second =
-    let tails : qs ≡ the_mark mark.Equals ∷ term (Some u) v ∷ ps = cc in
-    absurd (no_equals (term (Some u) v ∷ ps) (subst GoOn tails second))
+    let tails : qs ≡ the_mark mark.Equals ∷ term None (Some u) v ∷ ps = cc in
+    absurd (no_equals (term None (Some u) v ∷ ps) (subst GoOn tails second))
 
-one_member : (i : Item) (v w : Value i) (ps qs : List Piece) → member_pieces i v ++ ps ≡ member_pieces i w ++ qs → GoOn ps → GoOn qs → (v ≡ w) × (ps ≡ qs)
+one_member : (i : Item) (v w : Value i) (ps qs : List Piece) → item_pieces i v ++ ps ≡ item_pieces i w ++ qs → GoOn ps → GoOn qs → (v ≡ w) × (ps ≡ qs)
 one_member listed_name v w ps qs e first second = (refl, cc)
 one_member listed_word v w ps qs e first second = (cc, cc)
 one_member listed_relation v w ps qs e first second = one_relation v w ps qs e first second
@@ -94,18 +94,18 @@ no_comma ps qs behind e = ⊎_elim (λ f. absurd cc) (λ m. ⊎_elim (λ f. absu
 
 one_more : (i : Item) (vs ws : List (Value i)) (ps qs : List Piece) → more_pieces i vs ++ ps ≡ more_pieces i ws ++ qs → AreBehind ps → AreBehind qs → (vs ≡ ws) × (ps ≡ qs)
 one_more i [] [] ps qs e first second = (refl, e)
-one_more i [] (w ∷ ws) ps qs e first second = absurd (no_comma ps ((member_pieces i w ++ more_pieces i ws) ++ qs) first e)
-one_more i (v ∷ vs) [] ps qs e first second = absurd (no_comma qs ((member_pieces i v ++ more_pieces i vs) ++ ps) second (sym e))
+one_more i [] (w ∷ ws) ps qs e first second = absurd (no_comma ps ((item_pieces i w ++ more_pieces i ws) ++ qs) first e)
+one_more i (v ∷ vs) [] ps qs e first second = absurd (no_comma qs ((item_pieces i v ++ more_pieces i vs) ++ ps) second (sym e))
 one_more i (v ∷ vs) (w ∷ ws) ps qs e first second =
-    let tails : (member_pieces i v ++ more_pieces i vs) ++ ps ≡ (member_pieces i w ++ more_pieces i ws) ++ qs = cc in
+    let tails : (item_pieces i v ++ more_pieces i vs) ++ ps ≡ (item_pieces i w ++ more_pieces i ws) ++ qs = cc in
     let h = one_member i v w (more_pieces i vs ++ ps) (more_pieces i ws ++ qs)
-    (sym (append_assoc (member_pieces i v) (more_pieces i vs) ps) ∙ tails ∙ append_assoc (member_pieces i w) (more_pieces i ws) qs)
+    (sym (append_assoc (item_pieces i v) (more_pieces i vs) ps) ∙ tails ∙ append_assoc (item_pieces i w) (more_pieces i ws) qs)
     (more_go i vs ps first) (more_go i ws qs second) in
     let k = one_more i vs ws ps qs h.1 first second in
     (ap (λ x. x ∷ vs) h.0 ∙ ap (λ xs. w ∷ xs) k.0, k.1)
 
 -- a member of a list doesn't begin as what stands behind it
-no_member : (i : Item) (v : Value i) (ps qs : List Piece) → AreBehind ps → ps ≡ member_pieces i v ++ qs → ⊥
+no_member : (i : Item) (v : Value i) (ps qs : List Piece) → AreBehind ps → ps ≡ item_pieces i v ++ qs → ⊥
 no_member listed_name v ps qs behind e = ⊎_elim (λ f. absurd cc) (λ m. ⊎_elim (λ f. absurd cc) (λ f. absurd cc) m) (subst AreBehind e behind)
 no_member listed_word v ps qs behind e = ⊎_elim (λ f. absurd cc) (λ m. ⊎_elim (λ f. absurd cc) (λ f. absurd cc) m) (subst AreBehind e behind)
 no_member listed_relation (relator u) ps qs behind e = ⊎_elim (λ f. absurd cc) (λ m. ⊎_elim (λ f. absurd cc) (λ f. absurd cc) m) (subst AreBehind e behind)
@@ -114,11 +114,11 @@ no_member listed_arrow v ps qs behind e = ⊎_elim (λ f. absurd cc) (λ m. ⊎_
 
 one_list : (i : Item) (vs ws : List (Value i)) (ps qs : List Piece) → list_pieces i vs ++ ps ≡ list_pieces i ws ++ qs → AreBehind ps → AreBehind qs → (vs ≡ ws) × (ps ≡ qs)
 one_list i [] [] ps qs e first second = (refl, e)
-one_list i [] (w ∷ ws) ps qs e first second = absurd (no_member i w ps (more_pieces i ws ++ qs) first (e ∙ append_assoc (member_pieces i w) (more_pieces i ws) qs))
-one_list i (v ∷ vs) [] ps qs e first second = absurd (no_member i v qs (more_pieces i vs ++ ps) second (sym e ∙ append_assoc (member_pieces i v) (more_pieces i vs) ps))
+one_list i [] (w ∷ ws) ps qs e first second = absurd (no_member i w ps (more_pieces i ws ++ qs) first (e ∙ append_assoc (item_pieces i w) (more_pieces i ws) qs))
+one_list i (v ∷ vs) [] ps qs e first second = absurd (no_member i v qs (more_pieces i vs ++ ps) second (sym e ∙ append_assoc (item_pieces i v) (more_pieces i vs) ps))
 one_list i (v ∷ vs) (w ∷ ws) ps qs e first second =
     let h = one_member i v w (more_pieces i vs ++ ps) (more_pieces i ws ++ qs)
-    (sym (append_assoc (member_pieces i v) (more_pieces i vs) ps) ∙ e ∙ append_assoc (member_pieces i w) (more_pieces i ws) qs)
+    (sym (append_assoc (item_pieces i v) (more_pieces i vs) ps) ∙ e ∙ append_assoc (item_pieces i w) (more_pieces i ws) qs)
     (more_go i vs ps first) (more_go i ws qs second) in
     let k = one_more i vs ws ps qs h.1 first second in
     (ap (λ x. x ∷ vs) h.0 ∙ ap (λ xs. w ∷ xs) k.0, k.1)
@@ -140,7 +140,7 @@ one_bar (Some rs) (Some ss) e =
     let tails : list_pieces listed_relation rs ++ the_mark mark.Greater ∷ [] ≡ list_pieces listed_relation ss ++ the_mark mark.Greater ∷ [] = cc in
     ap (λ vs. Some vs) (one_list listed_relation rs ss (the_mark mark.Greater ∷ []) (the_mark mark.Greater ∷ []) tails (inl refl) (inl refl)).0
 
-one_group : (m n : ℕ) (rs ss : Option (List Relation)) → listed (names m) ++ (bar_pieces rs ++ the_mark mark.Greater ∷ []) ≡ listed (names n) ++ (bar_pieces ss ++ the_mark mark.Greater ∷ []) → group m rs ≡ group n ss
+one_group : (m n : ℕ) (rs ss : Option (List Relation)) → listed (generator_names m) ++ (bar_pieces rs ++ the_mark mark.Greater ∷ []) ≡ listed (generator_names n) ++ (bar_pieces ss ++ the_mark mark.Greater ∷ []) → group m rs ≡ group n ss
 one_group m n rs ss e =
     let h = one_list listed_name (units m) (units n) (bar_pieces rs ++ the_mark mark.Greater ∷ []) (bar_pieces ss ++ the_mark mark.Greater ∷ [])
     (ap (λ ms. listed ms ++ (bar_pieces rs ++ the_mark mark.Greater ∷ [])) (names_units m) ∙ e ∙ ap (λ ms. listed ms ++ (bar_pieces ss ++ the_mark mark.Greater ∷ [])) (sym (names_units n)))

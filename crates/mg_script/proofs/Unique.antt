@@ -1,5 +1,5 @@
 -- Lexemes are written of one list of pieces.
-use Rattle.std.proofs.Common.{◌≡◌, ◌≢◌, ◌⊎◌, inl, inr, ⊎_elim, ℕ, ◌<◌, List, [], ◌∷◌, refl, sym, ap, subst, ◌∙◌, arith}
+use Rattle.std.proofs.Common.{◌≡◌, ◌≢◌, ◌⊎◌, inl, inr, ⊎_elim, ℕ, ◌<◌, Some, List, [], ◌∷◌, refl, sym, ap, subst, ◌∙◌, arith}
 use Rattle.mg_lex.specs.declared.keyword.Keyword.{Keyword}
 use Rattle.mg_lex.specs.declared.keyword.Keyword.TheVariants as keyword
 use Rattle.mg_lex.specs.declared.mark.Mark.{Mark}
@@ -9,10 +9,11 @@ use Rattle.mg_terms.specs.declared.lexeme.Lexeme.TheVariants as lexeme
 use Rattle.mg_terms.specs.Word.{name, one, round, commutator, bare, power, Word, single, times}
 use Rattle.mg_terms.specs.Beginning.{BeginsBase, GoesOn, EndsBefore}
 use Rattle.mg_terms.proofs.Beginnings.{follows, one_end}
+use Rattle.mg_script.specs.declared.counted.Counted.TheVariants as counted
 use Rattle.mg_script.specs.declared.form.Property.{Property}
 use Rattle.mg_script.specs.declared.form.Property.TheVariants as property
 use Rattle.mg_script.specs.Statement.{property_keyword, Statement, Piece, sign, term, pieces_lexemes, statement_pieces, statement_lexemes}
-use Rattle.mg_script.proofs.Grammar.{Item, listed_name, listed_word, listed_relation, listed_arrow, Rest, end, sign_then, word_then, either, more, mark_then, keyword_then, item_then, comma_then, Reads, reads_end, reads_sign, reads_word, reads_first, reads_second, reads_more, reads_last, close_group, relations_rest, bar_rest, group_rest, word_rest, subgroup_rest, map_rest, in_rest, words_rest, asked_rest, ask_rest, fund_rest, grant_rest, run_rest, cancel_rest, report_rest, statement_rest}
+use Rattle.mg_script.proofs.Grammar.{Item, listed_name, listed_word, listed_relation, listed_arrow, Rest, end, this, sign_then, word_then, either, more, mark_then, keyword_then, item_then, comma_then, Reads, reads_end, reads_sign, reads_word, reads_first, reads_second, reads_more, reads_last, close_group, relations_rest, bar_rest, group_rest, word_rest, subgroup_rest, map_rest, in_rest, words_rest, asked_rest, ask_rest, fund_rest, grant_rest, run_rest, cancel_rest, report_rest, statement_rest}
 use Rattle.mg_script.proofs.Rests.{Begins, CanEnd, reads_begins, reads_nothing, end_inv, sign_inv, word_inv, either_inv, more_cases}
 use Rattle.mg_script.proofs.Written.{written}
 
@@ -48,8 +49,8 @@ IsSplit a b = ((x : Lexeme) → Begins a x → Begins b x → ⊥) × (CanEnd a 
 -- the next lexeme tells what comes, all the way
 abbrev Tells : Rest → Type 0
 Tells end = Unit {0}
-Tells (sign_then c r) = Tells r
-Tells (word_then left f) = (w : Word) → Tells (f w) × ((x : Lexeme) → Begins (f w) x → ¬ GoesOn w x)
+Tells (sign_then kind c r) = Tells r
+Tells (word_then kind left f) = (w : Word) → Tells (f w) × ((x : Lexeme) → Begins (f w) x → ¬ GoesOn w x)
 Tells (either a b) = Tells a × Tells b × ((x : Lexeme) → Begins a x → Begins b x → ⊥) × (CanEnd a → CanEnd b → ⊥)
 Tells (more i r) = Tells r × ((x : Lexeme) → Begins r x → EndsList x) × (¬ CanEnd r)
 
@@ -95,19 +96,19 @@ more_split i r tells = (λ x e begins. by_end x e (tells.1 x begins), λ none. a
 
 pub one_reading : (r : Rest) (ps qs : List Piece) → Tells r → Reads r ps → Reads r qs → pieces_lexemes ps ≡ pieces_lexemes qs → ps ≡ qs
 one_reading _ _ qs tells reads_end second e = sym (end_inv qs second)
-one_reading _ _ qs tells (reads_sign c r x ps in_class reads) second e =
-    let h = sign_inv c r qs second in
+one_reading _ _ qs tells (reads_sign kind c r x ps in_class reads) second e =
+    let h = sign_inv kind c r qs second in
     let both : x ∷ pieces_lexemes ps ≡ h.lexeme ∷ pieces_lexemes h.others = e ∙ ap pieces_lexemes h.split in
     let heads : x ≡ h.lexeme = cc in
     let tails : pieces_lexemes ps ≡ pieces_lexemes h.others = cc in
     let others = one_reading r ps h.others tells reads h.reads tails in
-    ap (λ y. sign y ∷ ps) heads ∙ ap (λ us. sign h.lexeme ∷ us) others ∙ sym h.split
-one_reading _ _ qs tells (reads_word left f w ps reads) second e =
-    let h = word_inv left f qs second in
+    ap (λ y. sign kind y ∷ ps) heads ∙ ap (λ us. sign kind h.lexeme ∷ us) others ∙ sym h.split
+one_reading _ _ qs tells (reads_word kind left f w ps reads) second e =
+    let h = word_inv kind left f qs second in
     let same = one_end w h.word (pieces_lexemes ps) (pieces_lexemes h.others) (e ∙ ap pieces_lexemes h.split)
     (ends_word w (f w) ps reads (tells w).1) (ends_word h.word (f h.word) h.others h.reads (tells h.word).1) in
     let others = one_reading (f w) ps h.others (tells w).0 reads (subst (λ v. Reads (f v) h.others) (sym same.0) h.reads) same.1 in
-    ap (λ v. term left v ∷ ps) same.0 ∙ ap (λ us. term left h.word ∷ us) others ∙ sym h.split
+    ap (λ v. term kind left v ∷ ps) same.0 ∙ ap (λ us. term kind left h.word ∷ us) others ∙ sym h.split
 one_reading _ _ qs tells (reads_first a b ps reads) second e =
     ⊎_elim (λ first. one_reading a ps qs tells.0 reads first e) (λ other. absurd (split_reads a b ps qs (tells.2, tells.3) reads other e)) (either_inv a b qs second)
 one_reading _ _ qs tells (reads_second a b ps reads) second e =
@@ -237,7 +238,7 @@ keyword_tells k r b first second behind =
     (first, second, (λ x e begins. let more' = behind x begins in omega (arith, more', ap lexeme_order e)), λ none. absurd none)
 
 abbrev from_report : Rest
-from_report = keyword_then keyword.Report report_rest
+from_report = sign_then (Some counted.Reports) (this (lexeme.Keyword keyword.Report)) report_rest
 
 abbrev from_cancel : Rest
 from_cancel = either (keyword_then keyword.Cancel cancel_rest) from_report

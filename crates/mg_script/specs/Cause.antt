@@ -1,5 +1,5 @@
 -- Why lexemes are no statement, and where. Places count from 0.
-use Rattle.std.specs.Prelude.{◌≡◌, ◌⊎◌, ℕ, ◌+◌, ◌<◌, ◌≤◌, Option, Some, List, ◌∷◌, ◌++◌, length, take, drop}
+use Rattle.std.specs.Prelude.{◌≡◌, ◌⊎◌, ℕ, ◌+◌, ◌<◌, ◌≤◌, Option, Some, None, List, ◌∷◌, ◌++◌, length, take, drop}
 use Rattle.mg_lex.specs.declared.refusal.Cause.{Cause}
 use Rattle.mg_lex.specs.declared.refusal.Cause.TheVariants as cause
 use Rattle.mg_lex.specs.Cause.{cause_number}

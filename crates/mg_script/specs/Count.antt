@@ -1,10 +1,10 @@
 -- What is counted in a script.
-use Rattle.std.specs.Prelude.{◌≡◌, ℕ, ◌+◌, ◌≤◌, ◌==◌, Bool, false, Option, Some, None, List, [], ◌∷◌, filter, length}
+use Rattle.std.specs.Prelude.{◌≡◌, ℕ, ◌+◌, ◌==◌, Bool, false, Option, Some, None, List, [], ◌∷◌, filter, length}
 use Rattle.mg_terms.specs.Word.{word_letters}
 use Rattle.mg_script.specs.declared.counted.Counted.{Counted}
 use Rattle.mg_script.specs.declared.counted.Counted.TheVariants as counted
 use Rattle.mg_script.specs.declared.counted.Counts.{Counts}
-use Rattle.mg_script.specs.Statement.{Piece, sign, term, Statement, statement_pieces}
+use Rattle.mg_script.specs.Statement.{Piece, sign, term}
 
 -- how many there may be
 abbrev pub limit_of : Counted → ℕ
