@@ -1,7 +1,7 @@
 mod Cuts
-pub mod Grammar
 pub mod Rests
 pub mod Written
 pub mod Unique
 pub mod Reaches
+pub mod Standing
 mod Trees

@@ -5,6 +5,7 @@ use Rattle.mg_terms.specs.declared.lexeme.Lexeme.{Lexeme}
 use Rattle.mg_terms.specs.declared.lexeme.Lexeme.TheVariants as lexeme
 use Rattle.mg_terms.specs.declared.read.WordRead.{WordRead}
 use Rattle.mg_terms.specs.Word.{Word, word_lexemes, word_letters}
+use Rattle.mg_terms.specs.Beginning.{BeginsBase}
 use Rattle.mg_script.specs.declared.counted.Counted.{Counted}
 use Rattle.mg_script.specs.declared.counted.Counts.{Counts}
 use Rattle.mg_script.specs.declared.fault.StatementFault.{StatementFault}
@@ -83,14 +84,28 @@ signs_then [] r = r
 signs_then (x ∷ xs) r = sign_then x.counted (class_of x.expected) (signs_then xs r)
 
 -- how a word is counted, and what stands left of it in an equation
-abbrev pub IsRole : Role → Option Counted → Option Word → Type 0
-IsRole role.Plain kind left = (kind ≡ None) × (left ≡ None)
-IsRole (role.Counted k) kind left = (kind ≡ Some k) × (left ≡ None)
-IsRole (role.RightSide n) kind left = (kind ≡ None) × (u : Word) × (left ≡ Some u) × (word_letters u ≡ n)
+abbrev pub kind_of : Role → Option Counted
+kind_of role.Plain = None
+kind_of (role.Counted k) = Some k
+kind_of (role.RightSide n) = None
+
+abbrev pub IsLeft : Role → Option Word → Type 0
+IsLeft role.Plain left = left ≡ None
+IsLeft (role.Counted k) left = left ≡ None
+IsLeft (role.RightSide n) left = (u : Word) × (left ≡ Some u) × (word_letters u ≡ n)
+
+-- the letters of the left side, if there is one
+abbrev pub left_letters : Option Word → ℕ
+left_letters None = 0
+left_letters (Some u) = word_letters u
 
 -- the next lexeme is of the class
 abbrev pub IsNext : Reader → Class → Type 0
 IsNext r c = (x : Lexeme) × (xs : List Lexeme) × (drop r.place r.lexemes.now ≡ x ∷ xs) × IsIn c x
+
+-- a word begins with the next lexeme
+abbrev pub BeginsWord : Reader → Type 0
+BeginsWord r = (x : Lexeme) × (xs : List Lexeme) × (drop r.place r.lexemes.now ≡ x ∷ xs) × BeginsBase x
 
 -- one more is counted so
 abbrev pub AddsOne : Option Counted → Counts → Counts → Type 0

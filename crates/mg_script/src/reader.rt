@@ -1,15 +1,16 @@
 //! Reads the lexemes of a statement from left to right.
 
-ghost use Rattle.std.specs.Prelude.{◌≡◌, ◌×◌, ◌↔◌, ◌+◌, ◌<◌, ◌≤◌, ◌∷◌, [], List as ListOf, Option as OptionOf, None, length, drop, IsTrue, IfSome, IfNone, IfOk, IfErr, OnOk};
+ghost use Rattle.std.specs.Prelude.{◌≡◌, ◌↔◌, ◌+◌, ◌<◌, ◌≤◌, ◌∷◌, [], List as ListOf, Option as OptionOf, None, length, drop, IsTrue, IfSome, IfNone, IfOk, IfErr, OnOk};
 ghost use Rattle.mg_terms.specs.declared.limits.TheConstants.{WORD_LIMIT};
 ghost use Rattle.mg_terms.specs.Word.{Word};
 ghost use Rattle.mg_terms.specs.Read.{IsRead};
+ghost use Rattle.mg_terms.specs.Cause.{IsFaultless};
+ghost use Rattle.mg_script.specs.Cause.{IsOneTooMany};
 ghost use Rattle.mg_terms.specs.Beginning.{BeginsBase};
-ghost use Rattle.mg_script.specs.declared.counted.Counts.{Counts};
 ghost use Rattle.mg_script.specs.Grammar.{Rest, sign_then, word_then, either, statement_rest};
-ghost use Rattle.mg_script.specs.Reader.{Start, Knows, Brings, BringsWord, Chooses, class_of, signs_then, IsRole, IsNext, NextBegins};
+ghost use Rattle.mg_script.specs.Reader.{Start, Knows, Brings, BringsWord, Chooses, class_of, signs_then, kind_of, IsLeft, IsNext, BeginsWord};
 
-use crate::counted::{Counted, Counts, LETTER_LIMIT};
+use crate::counted::{Counts, LETTER_LIMIT};
 use crate::fault::StatementFault;
 use crate::sign::{Expected, Role, Sign};
 use mg_lex::{Cause, Mark};
@@ -56,7 +57,7 @@ impl<'a> Reader<'a> {
 
     /// Whether a word begins with the next lexeme.
     pub(crate) fn begins_word(&self) -> bool
-        ensures next { IsTrue result ↔ NextBegins self.now }
+        ensures next { IsTrue result ↔ BeginsWord self.now }
         ensures within { IsTrue result → self.now.place < length self.now.lexemes.now }
     {
         match self.next() {
@@ -118,8 +119,8 @@ impl<'a> Reader<'a> {
 
     /// Takes a word.
     pub(crate) fn word(&mut self, role: Role) -> Result<WordRead, StatementFault>
-        ensures brings { (s : Start) (kind : OptionOf Counted) (left : OptionOf Word) (f : Word → Rest) → IsRole role kind left →
-            Knows s (word_then kind left f) self.old → BringsWord s f self.new result }
+        ensures brings { (s : Start) (left : OptionOf Word) (f : Word → Rest) → IsLeft role left →
+            Knows s (word_then (kind_of role) left f) self.old → BringsWord s f self.new result }
         ensures forward { OnOk result (self.old.place ≤ self.new.place) }
     {
         if !self.begins_word() {
@@ -130,18 +131,35 @@ impl<'a> Reader<'a> {
         }
         match read_word(&self.lexemes[self.place..]) {
             Ok(word) => self.take_word(role, word),
-            Err(fault) => Err(StatementFault {
-                place: self.place + fault.place,
-                cause: fault.cause,
-            }),
+            Err(fault) => Err(self.word_fault(fault)),
+        }
+    }
+
+    /// A fault in the word that begins with the next lexeme.
+    fn word_fault(&self, fault: WordFault) -> StatementFault
+        requires { self.now.place + fault.place ≤ length self.now.lexemes.now }
+        ensures { result ≡ record { place = self.now.place + fault.place; cause = fault.cause } }
+    {
+        StatementFault {
+            place: self.place + fault.place,
+            cause: fault.cause,
         }
     }
 
     /// Takes a word that has been read.
     fn take_word(&mut self, role: Role, word: WordRead) -> Result<WordRead, StatementFault>
+        requires read { IsRead (drop self.old.place self.old.lexemes.now) word }
+        requires faultless { IsFaultless (drop self.old.place self.old.lexemes.now) }
+        requires letters { word.letters ≤ WORD_LIMIT }
+        requires some { 1 ≤ word.count }
+        requires within { self.old.place + word.count ≤ length self.old.lexemes.now }
+        requires room { ¬ IsOneTooMany self.old.counts [] (kind_of role) }
+        ensures brings { (s : Start) (left : OptionOf Word) (f : Word → Rest) → IsLeft role left →
+            Knows s (word_then (kind_of role) left f) self.old → BringsWord s f self.new result }
+        ensures forward { OnOk result (self.old.place ≤ self.new.place) }
     {
         let last = self.place + word.count - 1;
-        if role.left_letters() + word.letters > WORD_LIMIT {
+        if role.left_letters() as u64 + word.letters as u64 > WORD_LIMIT as u64 {
             return Err(StatementFault {
                 place: last,
                 cause: Cause::WordTooLong,
@@ -157,5 +175,18 @@ impl<'a> Reader<'a> {
         self.counts.letters += word.letters;
         self.place += word.count;
         Ok(word)
+    }
+}
+
+/// Whether a base of a word begins with the lexeme.
+fn begins_base(lexeme: Lexeme) -> bool
+    ensures { IsTrue result ↔ BeginsBase lexeme }
+{
+    match lexeme {
+        Lexeme::Name => true,
+        Lexeme::Number(value) => value == 1,
+        Lexeme::Mark(mark) => mark == Mark::OpenRound || mark == Mark::OpenSquare,
+        Lexeme::Keyword(_) => false,
+        Lexeme::RelatorSign => false,
     }
 }

@@ -1,10 +1,10 @@
 //! What may stand at a place of a statement.
 
-ghost use Rattle.std.specs.Prelude.{◌≡◌, ◌×◌, ◌↔◌, None, Some, IsTrue, IfSome, IfNone};
-ghost use Rattle.mg_lex.specs.declared.mark.Mark.{Mark};
-ghost use Rattle.mg_script.specs.Grammar.{IsIn};
+ghost use Rattle.std.specs.Prelude.{◌≡◌, ◌↔◌, Option as OptionOf, None, Some, IsTrue, IfSome, IfNone};
+ghost use Rattle.mg_terms.specs.Word.{Word};
+ghost use Rattle.mg_script.specs.Grammar.{a_number, a_procedure, a_property, IsIn};
 ghost use Rattle.mg_script.specs.Statement.{property_keyword, procedure_keyword};
-ghost use Rattle.mg_script.specs.Reader.{class_of};
+ghost use Rattle.mg_script.specs.Reader.{class_of, kind_of, left_letters, IsLeft};
 
 use crate::counted::Counted;
 use crate::form::Property;
@@ -157,5 +157,29 @@ fn is_property(lexeme: Lexeme) -> bool
     match lexeme {
         Lexeme::Keyword(keyword) => property_of(keyword).is_some(),
         _ => false,
+    }
+}
+
+impl Role {
+    /// What the word is counted as.
+    pub(crate) fn counted(self) -> Option<Counted>
+        ensures { result ≡ kind_of self }
+    {
+        match self {
+            Role::Counted(counted) => Some(counted),
+            Role::Plain => None,
+            Role::RightSide(_) => None,
+        }
+    }
+
+    /// How many letters stand left of the word in its relation.
+    pub(crate) fn left_letters(self) -> u32
+        ensures { (left : OptionOf Word) → IsLeft self left → result ≡ left_letters left }
+    {
+        match self {
+            Role::RightSide(letters) => letters,
+            Role::Plain => 0,
+            Role::Counted(_) => 0,
+        }
     }
 }
