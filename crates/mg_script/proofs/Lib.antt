@@ -4,4 +4,5 @@ pub mod Written
 pub mod Unique
 pub mod Reaches
 pub mod Standing
+pub mod Steps
 mod Trees
