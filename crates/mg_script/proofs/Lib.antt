@@ -5,4 +5,6 @@ pub mod Unique
 pub mod Reaches
 pub mod Standing
 pub mod Steps
+pub mod Words
+pub mod Taken
 mod Trees

@@ -1,5 +1,5 @@
 -- What a step of the reader brings.
-use Rattle.std.proofs.Common.{◌≡◌, ◌↔◌, ℕ, ◌+◌, ◌<◌, ◌≤◌, Bool, true, false, IsTrue, Option, Some, None, List, [], ◌∷◌, ◌++◌, length, filter, get_or, suc, drop, drop-cons, refl, sym, ap, subst, ◌∙◌, arith, append_assoc, length-append}
+use Rattle.std.proofs.Common.{◌≡◌, ◌↔◌, ℕ, ◌+◌, ◌<◌, ◌≤◌, Bool, true, false, IsTrue, Option, Some, None, Ok, List, [], ◌∷◌, ◌++◌, length, filter, get_or, suc, drop, drop-cons, refl, sym, ap, subst, ◌∙◌, arith, append_assoc, length-append}
 use Rattle.std.proofs.Math.Seq.{drop-append_seam}
 use Rattle.std.proofs.lemmas.List.Elements.{filter-append}
 use Rattle.mg_lex.specs.declared.refusal.Cause.TheVariants as cause
@@ -8,15 +8,16 @@ use Rattle.mg_terms.specs.declared.lexeme.Lexeme.TheVariants as lexeme
 use Rattle.mg_terms.specs.Beginning.{BeginsBase}
 use Rattle.mg_terms.specs.Word.{Word, word_letters}
 use Rattle.mg_script.specs.declared.counted.Counted.{Counted}
+use Rattle.mg_script.specs.declared.counted.Counted.TheVariants as counted
 use Rattle.mg_script.specs.declared.counted.Counts.{Counts}
 use Rattle.mg_script.specs.declared.reader.Reader.{Reader}
 use Rattle.mg_script.specs.declared.sign.Sign.{Sign}
 use Rattle.mg_script.specs.Statement.{Piece, sign, term, pieces_lexemes}
-use Rattle.mg_script.specs.Count.{is_one, is_counted, how_many, piece_letters, letters_in, Adds}
+use Rattle.mg_script.specs.Count.{count_of, is_one, is_counted, how_many, piece_letters, letters_in, Adds}
 use Rattle.mg_script.specs.Cause.{IsOneTooMany, IsFirstCause}
-use Rattle.mg_script.specs.Grammar.{Class, IsIn, Rest, sign_then, word_then, either, Begins, CanEnd}
-use Rattle.mg_script.specs.Reader.{Start, Stand, Knows, Chooses, class_of, signs_then, IsNext, BeginsWord, AddsOne}
-use Rattle.mg_script.proofs.Standing.{pieces_push, Misses, stuck, sign_full, sign_passed, first_chosen, second_chosen}
+use Rattle.mg_script.specs.Grammar.{Class, IsIn, Rest, end, sign_then, word_then, either, Begins, CanEnd}
+use Rattle.mg_script.specs.Reader.{Start, Stand, Knows, Chooses, class_of, signs_then, IsNext, BeginsWord, AddsOne, numbers, Finishes}
+use Rattle.mg_script.proofs.Standing.{pieces_push, Misses, stuck, sign_full, sign_passed, first_chosen, second_chosen, finished}
 
 pub is_not : {A : Type 0} (b : Bool) → b ≡ false → IsTrue b ↔ A → A → ⊥
 is_not b off says a = let on : b ≡ true = says.1 a in absurd cc
@@ -63,6 +64,18 @@ full_since a b done (Some k) adds full = omega (arith, full, adds.counted k)
 pub room_since : (a b : Counts) (done : List Piece) (kind : Option Counted) → Adds done a b → ¬ IsOneTooMany b [] kind → ¬ IsOneTooMany a done kind
 room_since a b done None adds room full = full
 room_since a b done (Some k) adds room full = room (omega (arith, full, adds.counted k))
+
+-- counts with the same numbers
+pub same_count : (a b : Counts) → numbers a ≡ numbers b → (k : Counted) → count_of a k ≡ count_of b k
+same_count a b e counted.Groups = cc
+same_count a b e counted.Words = cc
+same_count a b e counted.Subgroups = cc
+same_count a b e counted.Maps = cc
+same_count a b e counted.Questions = cc
+same_count a b e counted.Generators = cc
+same_count a b e counted.Relators = cc
+same_count a b e counted.Members = cc
+same_count a b e counted.Reports = cc
 
 -- what is left
 pub ahead_is : (s : Start) (r : Rest) (now : Reader) (knows : Knows s r now) → drop now.place now.lexemes.now ≡ knows.ahead
@@ -149,3 +162,22 @@ leaves_first s k a b now knows other = knows_second s (sign_then None k a) b now
 pub next_sign : (s : Start) (signs : List Sign) (i : ℕ) (d : Sign) (r : Rest) (now : Reader) → i < length signs → Knows s (signs_then (drop i signs) r) now →
     Knows s (sign_then (get_or signs i d).counted (class_of (get_or signs i d).expected) (signs_then (drop (suc i) signs) r)) now
 next_sign s signs i d r now inside knows = subst (λ xs. Knows s (signs_then xs r) now) (drop-cons signs i d inside) knows
+
+-- by the answer of a choice
+pub went_first : (s : Start) (a b : Rest) (new : Reader) (taken : Bool) → Chooses s a b new taken → taken ≡ true → Knows s a new
+went_first s a b new taken chooses e = subst (Chooses s a b new) e chooses
+
+pub went_second : (s : Start) (a b : Rest) (new : Reader) (taken : Bool) → Chooses s a b new taken → taken ≡ false → Knows s b new
+went_second s a b new taken chooses e = subst (Chooses s a b new) e chooses
+
+-- at the end
+pub end_refused : (s : Start) (now : Reader) → Knows s end now → (x : Lexeme) (xs : List Lexeme) → drop now.place now.lexemes.now ≡ x ∷ xs → IsFirstCause s.counts s.lexemes now.place cause.Unexpected
+end_refused s now knows x xs e =
+    let left : knows.ahead ≡ x ∷ xs = sym (ahead_is s end now knows) ∙ e in
+    unexpected s end now knows (subst (Misses end) (sym left) (λ none. none))
+
+pub end_reached : (s : Start) (now : Reader) → Knows s end now → drop now.place now.lexemes.now ≡ [] → Finishes s now (Ok tt)
+end_reached s now knows e =
+    let left : knows.ahead ≡ [] = sym (ahead_is s end now knows) ∙ e in
+    let h = finished s knows.done (subst (λ zs. Stand s end knows.done zs) left knows.stand) in
+    ((h.0.0, ap pieces_lexemes h.0.1 ∙ h.1, subst (λ ps. Adds ps s.counts now.counts) (sym h.0.1) knows.adds), h.2)

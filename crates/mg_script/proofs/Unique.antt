@@ -13,7 +13,7 @@ use Rattle.mg_script.specs.declared.counted.Counted.TheVariants as counted
 use Rattle.mg_script.specs.declared.form.Property.{Property}
 use Rattle.mg_script.specs.declared.form.Property.TheVariants as property
 use Rattle.mg_script.specs.Statement.{property_keyword, Statement, Piece, sign, term, pieces_lexemes, statement_pieces, statement_lexemes}
-use Rattle.mg_script.specs.Grammar.{Begins, CanEnd, EndsList, Tells, Item, listed_name, listed_word, listed_relation, listed_arrow, Rest, end, this, sign_then, word_then, either, more, mark_then, keyword_then, item_then, comma_then, Reads, reads_end, reads_sign, reads_word, reads_first, reads_second, reads_more, reads_last, close_group, relations_rest, bar_rest, group_rest, word_rest, subgroup_rest, map_rest, in_rest, words_rest, asked_rest, ask_rest, fund_rest, grant_rest, run_rest, cancel_rest, report_rest, statement_rest}
+use Rattle.mg_script.specs.Grammar.{Begins, CanEnd, EndsList, Tells, Item, listed_name, listed_word, listed_relation, listed_arrow, Rest, end, this, sign_then, word_then, either, more, mark_then, keyword_then, item_then, comma_then, Reads, reads_end, reads_sign, reads_word, reads_first, reads_second, reads_more, reads_last, close_group, relations_rest, bar_rest, group_rest, word_rest, subgroup_rest, map_rest, in_rest, words_rest, asked_rest, ask_rest, fund_rest, grant_rest, run_rest, cancel_rest, report_rest, from_report, from_cancel, from_run, from_grant, from_fund, from_ask, from_map, from_subgroup, from_word, statement_rest}
 use Rattle.mg_script.proofs.Rests.{reads_begins, reads_nothing, end_inv, sign_inv, word_inv, either_inv, more_cases}
 use Rattle.mg_script.proofs.Written.{written}
 
@@ -225,33 +225,6 @@ past j k r b less behind x begins =
 keyword_tells : (k : Keyword) (r b : Rest) → Tells r → Tells b → IsPast k b → Tells (either (keyword_then k r) b)
 keyword_tells k r b first second behind =
     (first, second, (λ x e begins. let more' = behind x begins in omega (arith, more', ap lexeme_order e)), λ none. absurd none)
-
-abbrev from_report : Rest
-from_report = sign_then (Some counted.Reports) (this (lexeme.Keyword keyword.Report)) report_rest
-
-abbrev from_cancel : Rest
-from_cancel = either (keyword_then keyword.Cancel cancel_rest) from_report
-
-abbrev from_run : Rest
-from_run = either (keyword_then keyword.Run run_rest) from_cancel
-
-abbrev from_grant : Rest
-from_grant = either (keyword_then keyword.Grant grant_rest) from_run
-
-abbrev from_fund : Rest
-from_fund = either (keyword_then keyword.Fund fund_rest) from_grant
-
-abbrev from_ask : Rest
-from_ask = either (keyword_then keyword.Ask ask_rest) from_fund
-
-abbrev from_map : Rest
-from_map = either (keyword_then keyword.Map map_rest) from_ask
-
-abbrev from_subgroup : Rest
-from_subgroup = either (keyword_then keyword.Subgroup subgroup_rest) from_map
-
-abbrev from_word : Rest
-from_word = either (keyword_then keyword.Word word_rest) from_subgroup
 
 past_cancel : IsPast keyword.Cancel from_report
 past_cancel x e = omega (arith, ap lexeme_order e)

@@ -170,10 +170,33 @@ cancel_rest = name_then (sign_then None a_procedure end)
 abbrev pub report_rest : Rest
 report_rest = either (keyword_then keyword.Facts end) (either (keyword_then keyword.Log end) end)
 
+-- the forms from one on, in order
+abbrev pub from_report : Rest
+from_report = sign_then (Some counted.Reports) (this (lexeme.Keyword keyword.Report)) report_rest
+
+abbrev pub from_cancel : Rest
+from_cancel = either (keyword_then keyword.Cancel cancel_rest) from_report
+
+abbrev pub from_run : Rest
+from_run = either (keyword_then keyword.Run run_rest) from_cancel
+
+abbrev pub from_grant : Rest
+from_grant = either (keyword_then keyword.Grant grant_rest) from_run
+
+abbrev pub from_fund : Rest
+from_fund = either (keyword_then keyword.Fund fund_rest) from_grant
+
+abbrev pub from_ask : Rest
+from_ask = either (keyword_then keyword.Ask ask_rest) from_fund
+
+abbrev pub from_map : Rest
+from_map = either (keyword_then keyword.Map map_rest) from_ask
+
+abbrev pub from_subgroup : Rest
+from_subgroup = either (keyword_then keyword.Subgroup subgroup_rest) from_map
+
+abbrev pub from_word : Rest
+from_word = either (keyword_then keyword.Word word_rest) from_subgroup
+
 abbrev pub statement_rest : Rest
-statement_rest =
-    either (keyword_then keyword.Group group_rest) (either (keyword_then keyword.Word word_rest)
-    (either (keyword_then keyword.Subgroup subgroup_rest) (either (keyword_then keyword.Map map_rest)
-    (either (keyword_then keyword.Ask ask_rest) (either (keyword_then keyword.Fund fund_rest)
-    (either (keyword_then keyword.Grant grant_rest) (either (keyword_then keyword.Run run_rest)
-    (either (keyword_then keyword.Cancel cancel_rest) (sign_then (Some counted.Reports) (this (lexeme.Keyword keyword.Report)) report_rest)))))))))
+statement_rest = either (keyword_then keyword.Group group_rest) from_word

@@ -1,5 +1,5 @@
 -- What a reader of statements knows of what it has read, and what its steps bring.
-use Rattle.std.specs.Prelude.{◌≡◌, ℕ, ◌≤◌, Bool, true, false, Option, Some, None, Result, Ok, Err, List, [], ◌∷◌, ◌++◌, ◌+◌, length, drop}
+use Rattle.std.specs.Prelude.{◌≡◌, ℕ, ◌≤◌, Bool, true, false, Option, Some, None, Result, Ok, Err, List, [], ◌∷◌, ◌++◌, ◌+◌, ◌-◌, length, drop}
 use Rattle.mg_lex.specs.declared.refusal.Cause.{Cause}
 use Rattle.mg_terms.specs.declared.lexeme.Lexeme.{Lexeme}
 use Rattle.mg_terms.specs.declared.lexeme.Lexeme.TheVariants as lexeme
@@ -15,9 +15,9 @@ use Rattle.mg_script.specs.declared.sign.Sign.{Sign}
 use Rattle.mg_script.specs.declared.sign.Role.{Role}
 use Rattle.mg_script.specs.declared.sign.Role.TheVariants as role
 use Rattle.mg_script.specs.declared.reader.Reader.{Reader}
-use Rattle.mg_script.specs.Statement.{Piece, sign, Statement, statement_pieces, pieces_lexemes}
+use Rattle.mg_script.specs.Statement.{Piece, sign, Statement, statement_pieces, statement_lexemes, pieces_lexemes}
 use Rattle.mg_script.specs.Count.{count_of, how_many, Adds}
-use Rattle.mg_script.specs.Cause.{Shows, IsShown, IsFirstCause}
+use Rattle.mg_script.specs.Cause.{Shows, IsShown, IsFaultless, IsFirstCause}
 use Rattle.mg_script.specs.Grammar.{Class, this, a_number, a_procedure, a_property, IsIn, Rest, sign_then, Reads, Tells}
 
 -- what is to be read: lexemes, with what has been counted before
@@ -61,15 +61,24 @@ abbrev pub Brings : Start → Rest → Reader → Result Unit StatementFault →
 Brings s r new (Ok u) = Knows s r new
 Brings s r new (Err f) = IsFirstCause s.counts s.lexemes f.place f.cause
 
+-- what the end of the lexemes brings: they are a statement, or the first cause is found
+abbrev pub Finishes : Start → Reader → Result Unit StatementFault → Type 0
+Finishes s now (Ok u) =
+    ((t : Statement) × (statement_lexemes t ≡ s.lexemes) × Adds (statement_pieces t) s.counts now.counts) × IsFaultless s.counts s.lexemes
+Finishes s now (Err f) = IsFirstCause s.counts s.lexemes f.place f.cause
+
 -- one of two comes
 abbrev pub Chooses : Start → Rest → Rest → Reader → Bool → Type 0
 Chooses s a b new true = Knows s a new
 Chooses s a b new false = Knows s b new
 
+-- the word that has been read
+abbrev pub IsOf : Word → WordRead → Type 0
+IsOf w found = (length (word_lexemes w) ≡ found.count) × (word_letters w ≡ found.letters)
+
 -- what a word brings, by what may follow it
 abbrev pub BringsWord : Start → (Word → Rest) → Reader → Result WordRead StatementFault → Type 0
-BringsWord s f new (Ok found) =
-    (w : Word) × (length (word_lexemes w) ≡ found.count) × (word_letters w ≡ found.letters) × Knows s (f w) new
+BringsWord s f new (Ok found) = (w : Word) × IsOf w found × Knows s (f w) new
 BringsWord s f new (Err fault) = IsFirstCause s.counts s.lexemes fault.place fault.cause
 
 -- the class of lexemes that is expected
@@ -98,6 +107,10 @@ IsLeft (role.RightSide n) left = (u : Word) × (left ≡ Some u) × (word_letter
 abbrev pub left_letters : Option Word → ℕ
 left_letters None = 0
 left_letters (Some u) = word_letters u
+
+-- how many lexemes aren't read
+abbrev pub unread : Reader → ℕ
+unread r = length r.lexemes.now - r.place
 
 -- the next lexeme is of the class
 abbrev pub IsNext : Reader → Class → Type 0

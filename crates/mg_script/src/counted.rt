@@ -1,6 +1,6 @@
 //! What a script may hold only so many of.
 
-ghost use Rattle.std.specs.Prelude.{◌≡◌, ◌↔◌, ◌+◌, ◌<◌, [], set, None, Some, IsTrue};
+ghost use Rattle.std.specs.Prelude.{◌≡◌, ◌↔◌, ◌+◌, ◌^◌, ◌<◌, [], set, None, Some, IsTrue};
 ghost use Rattle.mg_script.specs.Count.{limit_of, count_of, counted_number};
 ghost use Rattle.mg_script.specs.Cause.{IsOneTooMany};
 ghost use Rattle.mg_script.specs.Reader.{AddsOne, numbers};
@@ -115,6 +115,18 @@ impl Counts {
         match counted {
             Some(counted) => self.one_more(counted),
             None => self,
+        }
+    }
+
+    /// The counts with so many letters more.
+    pub(crate) fn with_letters(self, letters: u32) -> Counts
+        requires { self.letters + letters < 2 ^ 32 }
+        ensures numbers { numbers result ≡ numbers self }
+        ensures letters { result.letters ≡ self.letters + letters }
+    {
+        Counts {
+            letters: self.letters + letters,
+            ..self
         }
     }
 }

@@ -4,6 +4,7 @@
 mod counted;
 mod fault;
 mod form;
+mod forms;
 mod laws;
 mod lines;
 mod reader;

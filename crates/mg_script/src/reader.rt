@@ -7,13 +7,13 @@ ghost use Rattle.mg_terms.specs.Read.{IsRead};
 ghost use Rattle.mg_terms.specs.Cause.{IsFaultless};
 ghost use Rattle.mg_script.specs.Cause.{IsOneTooMany};
 ghost use Rattle.mg_terms.specs.Beginning.{BeginsBase};
-ghost use Rattle.mg_script.specs.Grammar.{Rest, sign_then, word_then, either, statement_rest};
-ghost use Rattle.mg_script.specs.Reader.{Start, Knows, Brings, BringsWord, Chooses, class_of, signs_then, kind_of, IsLeft, IsNext, BeginsWord};
+ghost use Rattle.mg_script.specs.Grammar.{Rest, sign_then, word_then, keyword_then, either, statement_rest};
+ghost use Rattle.mg_script.specs.Reader.{Start, Knows, Brings, BringsWord, Chooses, class_of, signs_then, kind_of, IsLeft, unread, IsNext, BeginsWord};
 
 use crate::counted::{Counts, LETTER_LIMIT};
 use crate::fault::StatementFault;
 use crate::sign::{Expected, Role, Sign};
-use mg_lex::{Cause, Mark};
+use mg_lex::{Cause, Keyword, Mark};
 use mg_terms::{Lexeme, WORD_LIMIT, WordFault, WordRead, read_word};
 
 /// The lexemes of a statement, so many of which are read, and the counts with those of what is read.
@@ -67,7 +67,7 @@ impl<'a> Reader<'a> {
     }
 
     /// A fault at the next lexeme.
-    fn fault(&self, cause: Cause) -> StatementFault
+    pub(crate) fn fault(&self, cause: Cause) -> StatementFault
         ensures { result ≡ record { place = self.now.place; cause = cause } }
     {
         StatementFault {
@@ -80,7 +80,7 @@ impl<'a> Reader<'a> {
     pub(crate) fn sign(&mut self, sign: Sign) -> Result<(), StatementFault>
         ensures brings { (s : Start) (r : Rest) → Knows s (sign_then sign.counted (class_of sign.expected) r) self.old →
             Brings s r self.new result }
-        ensures forward { OnOk result (self.new.place ≡ self.old.place + 1) }
+        ensures forward { OnOk result (unread self.new ≤ unread self.old) }
     {
         if !self.is_next(sign.expected) {
             return Err(self.fault(Cause::Unexpected));
@@ -96,7 +96,7 @@ impl<'a> Reader<'a> {
     /// Takes lexemes, one for each sign.
     pub(crate) fn signs(&mut self, signs: &[Sign]) -> Result<(), StatementFault>
         ensures brings { (s : Start) (r : Rest) → Knows s (signs_then signs.now r) self.old → Brings s r self.new result }
-        ensures forward { OnOk result (self.old.place ≤ self.new.place) }
+        ensures forward { OnOk result (unread self.new ≤ unread self.old) }
     {
         for sign in signs {
             self.sign(*sign)?;
@@ -108,7 +108,7 @@ impl<'a> Reader<'a> {
     pub(crate) fn takes(&mut self, expected: Expected) -> bool
         ensures chooses { (s : Start) (a b : Rest) → Knows s (either (sign_then None (class_of expected) a) b) self.old →
             Chooses s a b self.new result }
-        ensures forward { IsTrue result → self.new.place ≡ self.old.place + 1 }
+        ensures forward { IsTrue result → unread self.new < unread self.old }
     {
         if self.is_next(expected) {
             self.place += 1;
@@ -117,11 +117,19 @@ impl<'a> Reader<'a> {
         false
     }
 
+    /// Takes the next lexeme if it is this keyword.
+    pub(crate) fn takes_keyword(&mut self, keyword: Keyword) -> bool
+        ensures chooses { (s : Start) (a b : Rest) → Knows s (either (keyword_then keyword a) b) self.old → Chooses s a b self.new result }
+        ensures forward { IsTrue result → unread self.new < unread self.old }
+    {
+        self.takes(Expected::This(Lexeme::Keyword(keyword)))
+    }
+
     /// Takes a word.
     pub(crate) fn word(&mut self, role: Role) -> Result<WordRead, StatementFault>
         ensures brings { (s : Start) (left : OptionOf Word) (f : Word → Rest) → IsLeft role left →
             Knows s (word_then (kind_of role) left f) self.old → BringsWord s f self.new result }
-        ensures forward { OnOk result (self.old.place ≤ self.new.place) }
+        ensures forward { OnOk result (unread self.new ≤ unread self.old) }
     {
         if !self.begins_word() {
             return Err(self.fault(Cause::Unexpected));
@@ -156,7 +164,7 @@ impl<'a> Reader<'a> {
         requires room { ¬ IsOneTooMany self.old.counts [] (kind_of role) }
         ensures brings { (s : Start) (left : OptionOf Word) (f : Word → Rest) → IsLeft role left →
             Knows s (word_then (kind_of role) left f) self.old → BringsWord s f self.new result }
-        ensures forward { OnOk result (self.old.place ≤ self.new.place) }
+        ensures forward { OnOk result (unread self.new ≤ unread self.old) }
     {
         let last = self.place + word.count - 1;
         if role.left_letters() as u64 + word.letters as u64 > WORD_LIMIT as u64 {
@@ -171,8 +179,7 @@ impl<'a> Reader<'a> {
                 cause: Cause::TooMany,
             });
         }
-        self.counts = self.counts.with(role.counted());
-        self.counts.letters += word.letters;
+        self.counts = self.counts.with(role.counted()).with_letters(word.letters);
         self.place += word.count;
         Ok(word)
     }

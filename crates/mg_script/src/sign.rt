@@ -57,6 +57,21 @@ pub(crate) const PROCEDURE: Sign = Sign {
     expected: Expected::Procedure,
 };
 
+/// The keyword of a report, which is counted.
+pub(crate) const REPORT: Sign = Sign {
+    counted: Some(Counted::Reports),
+    expected: Expected::This(Lexeme::Keyword(Keyword::Report)),
+};
+
+/// A comma.
+pub(crate) const COMMA: Expected = Expected::This(Lexeme::Mark(Mark::Comma));
+
+/// An equals sign.
+pub(crate) const EQUALS: Expected = Expected::This(Lexeme::Mark(Mark::Equals));
+
+/// The bar before relations.
+pub(crate) const BAR: Expected = Expected::This(Lexeme::Mark(Mark::Bar));
+
 /// A mark.
 pub(crate) fn mark(mark: Mark) -> Sign
     ensures { result ≡ record { counted = None; expected = Expected.This (Lexeme.Mark mark) } }
