@@ -7,4 +7,5 @@ pub mod Standing
 pub mod Steps
 pub mod Words
 pub mod Taken
+pub mod Names
 mod Trees

@@ -1,5 +1,5 @@
 -- What a step of the reader brings.
-use Rattle.std.proofs.Common.{◌≡◌, ◌↔◌, ℕ, ◌+◌, ◌<◌, ◌≤◌, Bool, true, false, IsTrue, Option, Some, None, Ok, List, [], ◌∷◌, ◌++◌, length, filter, get_or, suc, drop, drop-cons, refl, sym, ap, subst, ◌∙◌, arith, append_assoc, length-append}
+use Rattle.std.proofs.Common.{◌≡◌, ◌↔◌, ℕ, ◌+◌, ◌<◌, ◌≤◌, Bool, true, false, IsTrue, Option, Some, None, Result, Ok, Err, List, [], ◌∷◌, ◌++◌, length, filter, get_or, suc, drop, drop-cons, refl, sym, ap, subst, ◌∙◌, arith, append_assoc, length-append}
 use Rattle.std.proofs.Math.Seq.{drop-append_seam}
 use Rattle.std.proofs.lemmas.List.Elements.{filter-append}
 use Rattle.mg_lex.specs.declared.refusal.Cause.TheVariants as cause
@@ -10,13 +10,14 @@ use Rattle.mg_terms.specs.Word.{Word, word_letters}
 use Rattle.mg_script.specs.declared.counted.Counted.{Counted}
 use Rattle.mg_script.specs.declared.counted.Counted.TheVariants as counted
 use Rattle.mg_script.specs.declared.counted.Counts.{Counts}
+use Rattle.mg_script.specs.declared.fault.StatementFault.{StatementFault}
 use Rattle.mg_script.specs.declared.reader.Reader.{Reader}
 use Rattle.mg_script.specs.declared.sign.Sign.{Sign}
 use Rattle.mg_script.specs.Statement.{Piece, sign, term, pieces_lexemes}
 use Rattle.mg_script.specs.Count.{count_of, is_one, is_counted, how_many, piece_letters, letters_in, Adds}
 use Rattle.mg_script.specs.Cause.{IsOneTooMany, IsFirstCause}
 use Rattle.mg_script.specs.Grammar.{Class, IsIn, Rest, end, sign_then, word_then, either, Begins, CanEnd}
-use Rattle.mg_script.specs.Reader.{Start, Stand, Knows, Chooses, class_of, signs_then, IsNext, BeginsWord, AddsOne, numbers, Finishes}
+use Rattle.mg_script.specs.Reader.{Start, Stand, Knows, Brings, Chooses, class_of, signs_then, IsNext, BeginsWord, AddsOne, numbers, Finishes}
 use Rattle.mg_script.proofs.Standing.{pieces_push, Misses, stuck, sign_full, sign_passed, first_chosen, second_chosen, finished}
 
 pub is_not : {A : Type 0} (b : Bool) → b ≡ false → IsTrue b ↔ A → A → ⊥
@@ -181,3 +182,7 @@ end_reached s now knows e =
     let left : knows.ahead ≡ [] = sym (ahead_is s end now knows) ∙ e in
     let h = finished s knows.done (subst (λ zs. Stand s end knows.done zs) left knows.stand) in
     ((h.0.0, ap pieces_lexemes h.0.1 ∙ h.1, subst (λ ps. Adds ps s.counts now.counts) (sym h.0.1) knows.adds), h.2)
+
+-- a fault that is passed on
+pub passed_on : (s : Start) (t : Rest) (now : Reader) (result : Result Unit StatementFault) (f : StatementFault) → (y : StatementFault) × (result ≡ Err y) × (y ≡ f) → IsFirstCause s.counts s.lexemes f.place f.cause → Brings s t now result
+passed_on s t now result f p first = rw p.1 (subst (λ g. IsFirstCause s.counts s.lexemes g.place g.cause) (sym p.2) first)

@@ -109,6 +109,7 @@ impl<'a> Reader<'a> {
         ensures chooses { (s : Start) (a b : Rest) → Knows s (either (sign_then None (class_of expected) a) b) self.old →
             Chooses s a b self.new result }
         ensures forward { IsTrue result → unread self.new < unread self.old }
+        ensures kept { unread self.new ≤ unread self.old }
     {
         if self.is_next(expected) {
             self.place += 1;
