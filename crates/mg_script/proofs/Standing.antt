@@ -1,6 +1,6 @@
 -- What has been read of a statement, and the first cause where nothing goes on with it.
-use Rattle.std.proofs.Common.{◌≡◌, ◌⊎◌, inl, inr, ⊎_elim, ℕ, zero, suc, ◌+◌, ◌-◌, ◌<◌, ◌≤◌, Option, Some, None, List, [], ◌∷◌, ◌++◌, length, take, drop, refl, sym, ap, subst, ◌∙◌, arith, append_assoc, append-nil, length-append}
-use Rattle.std.proofs.Math.Seq.{take-append_seam, take-append-add, take-length}
+use Rattle.std.proofs.Common.{◌≡◌, ◌⊎◌, inl, inr, ⊎_elim, ℕ, zero, suc, ◌+◌, ◌-◌, ◌<◌, ◌≤◌, Option, List, [], ◌∷◌, ◌++◌, length, take, refl, sym, ap, subst, ◌∙◌, arith, append_assoc, append-nil, length-append}
+use Rattle.std.proofs.Math.Seq.{take-append_seam, take-append-add}
 use Rattle.std.proofs.lemmas.Bool.{cases_lt}
 use Rattle.std.proofs.lemmas.List.{append_cancel_left}
 use Rattle.mg_lex.specs.declared.refusal.Cause.{Cause}
@@ -14,10 +14,10 @@ use Rattle.mg_script.specs.declared.counted.Counted.{Counted}
 use Rattle.mg_script.specs.declared.counted.Counts.{Counts}
 use Rattle.mg_script.specs.Statement.{Piece, sign, term, piece_lexemes, pieces_lexemes, statement_pieces, statement_lexemes}
 use Rattle.mg_script.specs.Count.{Adds}
-use Rattle.mg_script.specs.Cause.{IsStatement, IsBeginning, IsReach, IsOneTooMany, Shows, one_sign_too_many, one_word_too_many, in_word, long_relation, too_many_letters, IsShown, Stands, IsFaultless, IsFirstCause}
+use Rattle.mg_script.specs.Cause.{IsStatement, IsBeginning, IsReach, IsOneTooMany, Shows, one_sign_too_many, one_word_too_many, in_word, long_relation, too_many_letters, IsShown, IsFaultless, IsFirstCause}
 use Rattle.mg_script.specs.Grammar.{Class, IsIn, Rest, end, sign_then, either, statement_rest, Reads, reads_end, reads_sign, reads_first, reads_second, Begins, CanEnd, Tells}
 use Rattle.mg_script.specs.Reader.{Start, IsWriting, BeginAlike, Stand}
-use Rattle.mg_script.proofs.Rests.{one_of, sample, word_first, reads_begins, reads_nothing, end_inv, sign_inv, either_inv}
+use Rattle.mg_script.proofs.Rests.{sample, word_first, reads_begins, reads_nothing, sign_inv, either_inv}
 use Rattle.mg_script.proofs.Written.{written, tree}
 use Rattle.mg_script.proofs.Unique.{statement_tells}
 use Rattle.mg_script.proofs.Reaches.{reach_past, one_reach}

@@ -1,12 +1,12 @@
 -- What a step of the reader brings.
-use Rattle.std.proofs.Common.{◌≡◌, ◌↔◌, ℕ, ◌+◌, ◌<◌, ◌≤◌, Bool, true, false, IsTrue, Option, Some, None, Result, Ok, Err, List, [], ◌∷◌, ◌++◌, length, filter, get_or, suc, drop, drop-cons, refl, sym, ap, subst, ◌∙◌, arith, append_assoc, length-append}
+use Rattle.std.proofs.Common.{◌≡◌, ◌↔◌, ℕ, ◌+◌, ◌<◌, Bool, true, false, IsTrue, Option, Some, None, Result, Ok, Err, List, [], ◌∷◌, ◌++◌, length, filter, get_or, suc, drop, drop-cons, refl, sym, ap, subst, ◌∙◌, arith, length-append}
 use Rattle.std.proofs.Math.Seq.{drop-append_seam}
 use Rattle.std.proofs.lemmas.List.Elements.{filter-append}
 use Rattle.mg_lex.specs.declared.refusal.Cause.TheVariants as cause
 use Rattle.mg_terms.specs.declared.lexeme.Lexeme.{Lexeme}
 use Rattle.mg_terms.specs.declared.lexeme.Lexeme.TheVariants as lexeme
 use Rattle.mg_terms.specs.Beginning.{BeginsBase}
-use Rattle.mg_terms.specs.Word.{Word, word_letters}
+use Rattle.mg_terms.specs.Word.{Word}
 use Rattle.mg_script.specs.declared.counted.Counted.{Counted}
 use Rattle.mg_script.specs.declared.counted.Counted.TheVariants as counted
 use Rattle.mg_script.specs.declared.counted.Counts.{Counts}
@@ -16,7 +16,7 @@ use Rattle.mg_script.specs.declared.sign.Sign.{Sign}
 use Rattle.mg_script.specs.Statement.{Piece, sign, term, pieces_lexemes}
 use Rattle.mg_script.specs.Count.{count_of, is_one, is_counted, how_many, piece_letters, letters_in, Adds}
 use Rattle.mg_script.specs.Cause.{IsOneTooMany, IsFirstCause}
-use Rattle.mg_script.specs.Grammar.{Class, IsIn, Rest, end, sign_then, word_then, either, Begins, CanEnd}
+use Rattle.mg_script.specs.Grammar.{Class, IsIn, Rest, end, sign_then, word_then, either, Begins}
 use Rattle.mg_script.specs.Reader.{Start, Stand, Knows, Brings, Chooses, class_of, signs_then, IsNext, BeginsWord, AddsOne, numbers, Finishes}
 use Rattle.mg_script.proofs.Standing.{pieces_push, Misses, stuck, sign_full, sign_passed, first_chosen, second_chosen, finished}
 

@@ -1,5 +1,5 @@
 -- What a word brings to the reader.
-use Rattle.std.proofs.Common.{◌≡◌, ℕ, ◌+◌, ◌-◌, ◌<◌, ◌≤◌, Option, Some, None, List, [], ◌∷◌, ◌++◌, length, take, drop, refl, sym, ap, subst, ◌∙◌, arith, length-append}
+use Rattle.std.proofs.Common.{◌≡◌, ℕ, ◌+◌, ◌-◌, ◌<◌, ◌≤◌, Option, None, List, [], ◌∷◌, ◌++◌, length, drop, sym, ap, subst, ◌∙◌, arith, length-append}
 use Rattle.std.proofs.lemmas.List.{length-take-le}
 use Rattle.mg_lex.specs.declared.refusal.Cause.{Cause}
 use Rattle.mg_lex.specs.declared.refusal.Cause.TheVariants as cause
@@ -7,7 +7,7 @@ use Rattle.mg_terms.specs.declared.lexeme.Lexeme.{Lexeme}
 use Rattle.mg_terms.specs.declared.limits.TheConstants.{WORD_LIMIT}
 use Rattle.mg_terms.specs.declared.read.WordRead.{WordRead}
 use Rattle.mg_terms.specs.Read.{IsRead}
-use Rattle.mg_terms.specs.Word.{Word, word_lexemes, word_letters}
+use Rattle.mg_terms.specs.Word.{Word, word_lexemes}
 use Rattle.mg_terms.specs.Cause as words
 use Rattle.mg_script.specs.declared.counted.Counted.{Counted}
 use Rattle.mg_script.specs.declared.counted.Counts.{Counts}
@@ -16,10 +16,9 @@ use Rattle.mg_script.specs.declared.reader.Reader.{Reader}
 use Rattle.mg_script.specs.declared.sign.Role.{Role}
 use Rattle.mg_script.specs.declared.sign.Role.TheVariants as role
 use Rattle.mg_script.specs.Statement.{term, pieces_lexemes}
-use Rattle.mg_script.specs.Count.{letters_in}
 use Rattle.mg_script.specs.Cause.{IsOneTooMany, IsFirstCause}
 use Rattle.mg_script.specs.Grammar.{Rest, word_then}
-use Rattle.mg_script.specs.Reader.{Start, Stand, Knows, BeginsWord, AddsOne, IsOf, kind_of, IsLeft, left_letters, numbers}
+use Rattle.mg_script.specs.Reader.{Start, Knows, BeginsWord, AddsOne, IsOf, kind_of, IsLeft, left_letters, numbers}
 use Rattle.mg_script.proofs.Standing.{pieces_push, word_length}
 use Rattle.mg_script.proofs.Steps.{adds_piece, full_since, room_since, same_count, ahead_is}
 use Rattle.mg_script.proofs.Words.{word_taken, word_passed, word_long, word_many, word_refused, word_full}

@@ -1,5 +1,5 @@
 -- Lexemes are written of one list of pieces.
-use Rattle.std.proofs.Common.{◌≡◌, ◌≢◌, ◌⊎◌, inl, inr, ⊎_elim, ℕ, ◌<◌, Some, List, [], ◌∷◌, refl, sym, ap, subst, ◌∙◌, arith}
+use Rattle.std.proofs.Common.{◌≡◌, ◌≢◌, ◌⊎◌, inl, inr, ⊎_elim, ℕ, ◌<◌, List, [], ◌∷◌, refl, sym, ap, subst, ◌∙◌, arith}
 use Rattle.mg_lex.specs.declared.keyword.Keyword.{Keyword}
 use Rattle.mg_lex.specs.declared.keyword.Keyword.TheVariants as keyword
 use Rattle.mg_lex.specs.declared.mark.Mark.{Mark}
@@ -9,11 +9,10 @@ use Rattle.mg_terms.specs.declared.lexeme.Lexeme.TheVariants as lexeme
 use Rattle.mg_terms.specs.Word.{name, one, round, commutator, bare, power, Word, single, times}
 use Rattle.mg_terms.specs.Beginning.{BeginsBase, GoesOn, EndsBefore}
 use Rattle.mg_terms.proofs.Beginnings.{follows, one_end}
-use Rattle.mg_script.specs.declared.counted.Counted.TheVariants as counted
 use Rattle.mg_script.specs.declared.form.Property.{Property}
 use Rattle.mg_script.specs.declared.form.Property.TheVariants as property
 use Rattle.mg_script.specs.Statement.{property_keyword, Statement, Piece, sign, term, pieces_lexemes, statement_pieces, statement_lexemes}
-use Rattle.mg_script.specs.Grammar.{Begins, CanEnd, EndsList, Tells, Item, listed_name, listed_word, listed_relation, listed_arrow, Rest, end, this, sign_then, word_then, either, more, mark_then, keyword_then, item_then, comma_then, Reads, reads_end, reads_sign, reads_word, reads_first, reads_second, reads_more, reads_last, close_group, relations_rest, bar_rest, group_rest, word_rest, subgroup_rest, map_rest, in_rest, words_rest, asked_rest, ask_rest, fund_rest, grant_rest, run_rest, cancel_rest, report_rest, from_report, from_cancel, from_run, from_grant, from_fund, from_ask, from_map, from_subgroup, from_word, statement_rest}
+use Rattle.mg_script.specs.Grammar.{Begins, CanEnd, EndsList, Tells, Item, listed_name, listed_word, listed_relation, listed_arrow, Rest, end, either, more, mark_then, keyword_then, item_then, comma_then, Reads, reads_end, reads_sign, reads_word, reads_first, reads_second, reads_more, reads_last, close_group, relations_rest, bar_rest, group_rest, word_rest, subgroup_rest, map_rest, in_rest, words_rest, asked_rest, ask_rest, fund_rest, grant_rest, run_rest, cancel_rest, report_rest, from_report, from_cancel, from_run, from_grant, from_fund, from_ask, from_map, from_subgroup, from_word, statement_rest}
 use Rattle.mg_script.proofs.Rests.{reads_begins, reads_nothing, end_inv, sign_inv, word_inv, either_inv, more_cases}
 use Rattle.mg_script.proofs.Written.{written}
 

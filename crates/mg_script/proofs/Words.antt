@@ -1,6 +1,6 @@
 -- What a word brings to a reader: it is taken, or the first cause is found in it or at its end.
 use Rattle.std.proofs.Common.{◌≡◌, ◌⊎◌, inl, inr, ⊎_elim, ℕ, zero, suc, ◌+◌, ◌-◌, ◌<◌, ◌≤◌, Option, Some, None, List, [], ◌∷◌, ◌++◌, length, take, drop, refl, sym, ap, subst, ◌∙◌, arith, append_assoc, append-nil, length-append}
-use Rattle.std.specs.List.{AllByRecursion, Contains}
+use Rattle.std.specs.List.{AllByRecursion}
 use Rattle.std.proofs.Math.Seq.{take-append_seam, take-append-add, take-add, drop-append-add, drop-append_seam}
 use Rattle.std.proofs.lemmas.Bool.{cases_lt}
 use Rattle.std.proofs.lemmas.List.{take-take, take-append-drop, length-take-le, take_all, take_at, append_cancel_left, length-drop}
@@ -25,8 +25,8 @@ use Rattle.mg_script.specs.declared.counted.Counts.{Counts}
 use Rattle.mg_script.specs.declared.counted.TheConstants.{LETTER_LIMIT}
 use Rattle.mg_script.specs.Statement.{Piece, sign, term, pieces_lexemes, name_alone, Statement, statement_pieces, statement_lexemes}
 use Rattle.mg_script.specs.Count.{letters_in}
-use Rattle.mg_script.specs.Cause.{IsStatement, IsBeginning, IsReach, IsWhole, IsOneTooMany, Shows, one_sign_too_many, one_word_too_many, in_word, long_relation, too_many_letters, IsShown, Stands, IsFirstCause}
-use Rattle.mg_script.specs.Grammar.{Begins, Rest, word_then, Reads, reads_word, Tells}
+use Rattle.mg_script.specs.Cause.{IsStatement, IsReach, IsWhole, IsOneTooMany, Shows, one_sign_too_many, one_word_too_many, in_word, long_relation, too_many_letters, IsShown, Stands, IsFirstCause}
+use Rattle.mg_script.specs.Grammar.{Rest, word_then, Reads, reads_word}
 use Rattle.mg_script.specs.Reader.{Start, IsWriting, BeginAlike, Stand, left_letters}
 use Rattle.mg_script.proofs.Rests.{sample, word_first, word_inv}
 use Rattle.mg_script.proofs.Unique.{ends_word}

@@ -1,5 +1,4 @@
 use Rattle.mg_script.specs.Grammar.{end, fund_rest, from_grant, grant_rest, from_run, run_rest, from_cancel, cancel_rest, from_report}
-use Rattle.mg_script.specs.Reader.{Start, Knows}
 use Rattle.mg_script.proofs.Steps.{went_first, went_second}
 use Rattle.mg_script.proofs.reader.Reader.command.Goals as goal
 

@@ -1,4 +1,4 @@
-use Rattle.std.proofs.Common.{◌≡◌, [], refl}
+use Rattle.std.proofs.Common.{[], refl}
 use Rattle.mg_script.proofs.Standing.{started, adds_nothing}
 use Rattle.mg_script.proofs.reader.Reader.new.Goals as goal
 

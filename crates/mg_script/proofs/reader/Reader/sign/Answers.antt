@@ -1,6 +1,5 @@
 use Rattle.mg_script.specs.Grammar.{sign_then}
 use Rattle.mg_script.specs.Reader.{class_of}
-use Rattle.mg_lex.specs.declared.refusal.Cause.TheVariants as cause
 use Rattle.mg_script.proofs.Steps.{is_not, is_so, unexpected, not_next, sign_refused, sign_taken}
 use Rattle.mg_script.proofs.reader.Reader.sign.Goals as goal
 

@@ -1,4 +1,3 @@
-use Rattle.std.proofs.Common.{drop, subst}
 use Rattle.std.proofs.lemmas.List.{take_rest}
 use Rattle.mg_script.specs.Grammar.{word_then}
 use Rattle.mg_script.specs.Reader.{kind_of}
