@@ -8,4 +8,5 @@ pub mod Steps
 pub mod Words
 pub mod Taken
 pub mod Names
+pub mod Listing
 mod Trees

@@ -138,7 +138,7 @@ shown_behind s r done ahead stand q c shown =
     let place : q + 1 ≡ n + m = omega arith in
     let zs = take m ahead ++ shown.rest in
     let e : statement_lexemes shown.statement ≡ pieces_lexemes done ++ zs =
-        shown.shared ∙ ap (λ k. take k s.lexemes ++ shown.rest) place ∙ ap (λ xs. xs ++ shown.rest) (front_of s r done ahead stand m) ∙ append_assoc (pieces_lexemes done) (take m ahead) shown.rest in
+    shown.shared ∙ ap (λ k. take k s.lexemes ++ shown.rest) place ∙ ap (λ xs. xs ++ shown.rest) (front_of s r done ahead stand m) ∙ append_assoc (pieces_lexemes done) (take m ahead) shown.rest in
     let h = shared s r done ahead stand (statement_pieces shown.statement) zs (shown.statement, refl) e (alike_front m ahead shown.rest (omega arith) (omega arith)) in
     ⊎_elim (λ old. absurd (stand.quiet shown.front old.0 shown.piece q c old.1 shown.shows))
     (λ new. record {
@@ -233,9 +233,11 @@ pub sign_begins : (s : Start) (kind : Option Counted) (k : Class) (r : Rest) (do
     (h : IsWriting (done ++ sign kind x ∷ (sample r).0)) × (statement_lexemes h.0 ≡ take (length (pieces_lexemes done) + 1) s.lexemes ++ pieces_lexemes (sample r).0)
 sign_begins s kind k r done x ys stand in_class =
     let rest = sample r in
-    let h = stand.goes_on (sign kind x ∷ rest.0) (reads_sign kind k r x rest.0 in_class rest.1) in
-    (h, ap pieces_lexemes h.1 ∙ pieces_append done (sign kind x ∷ rest.0) ∙ sym (append_assoc (pieces_lexemes done) (x ∷ []) (pieces_lexemes rest.0))
-        ∙ ap (λ xs. xs ++ pieces_lexemes rest.0) (sym (front_of s (sign_then kind k r) done (x ∷ ys) stand 1)))
+    let h = stand.goes_on (sign kind x ∷ rest.0) (reads_sign kind k r x rest.0 in_class rest.1) in (
+      h,
+      ap pieces_lexemes h.1 ∙ pieces_append done (sign kind x ∷ rest.0) ∙ sym (append_assoc (pieces_lexemes done) (x ∷ []) (pieces_lexemes rest.0))
+          ∙ ap (λ xs. xs ++ pieces_lexemes rest.0) (sym (front_of s (sign_then kind k r) done (x ∷ ys) stand 1)),
+    )
 
 -- a lexeme that is one too many
 pub sign_full : (s : Start) (kind : Option Counted) (k : Class) (r : Rest) (done : List Piece) (x : Lexeme) (ys : List Lexeme) → Stand s (sign_then kind k r) done (x ∷ ys) → IsIn k x → IsOneTooMany s.counts done kind →
@@ -340,9 +342,12 @@ started s = record {
 pub finished : (s : Start) (done : List Piece) → Stand s end done [] → IsWriting done × (pieces_lexemes done ≡ s.lexemes) × IsFaultless s.counts s.lexemes
 finished s done stand =
     let writing = subst IsWriting (append-nil done) (stand.goes_on [] reads_end) in
-    let all : pieces_lexemes done ≡ s.lexemes = sym (stand.split ∙ append-nil (pieces_lexemes done)) in
-    (writing, all, λ p c stands. ⊎_elim (λ unexpected. unexpected.2 (writing.0, ap pieces_lexemes writing.1 ∙ all))
-        (λ shown. let early = stand.early p c shown in let inside = shown.within in absurd (omega (arith, ap length all))) stands)
+    let all : pieces_lexemes done ≡ s.lexemes = sym (stand.split ∙ append-nil (pieces_lexemes done)) in (
+      writing,
+      all,
+      λ p c stands. ⊎_elim (λ unexpected. unexpected.2 (writing.0, ap pieces_lexemes writing.1 ∙ all))
+          (λ shown. let early = stand.early p c shown in let inside = shown.within in absurd (omega (arith, ap length all))) stands,
+    )
 
 pub adds_nothing : (counts : Counts) → Adds [] counts counts
 adds_nothing counts = record { counted = λ k. omega arith; letters = omega arith }

@@ -87,8 +87,7 @@ module _ (s : Start) (kind : Option Counted) (left : Option Word) (f : Word → 
   word_read middle new short few one before same letters =
       let w = here.word in
       let rest = drop found.count knows.ahead in
-      let count = read_count knows.ahead found here in
-      (
+      let count = read_count knows.ahead found here in (
         w,
         (count, here.letters),
         record {

@@ -5,3 +5,4 @@ pub mod Count
 pub mod Cause
 pub mod Grammar
 pub mod Reader
+pub mod Lists

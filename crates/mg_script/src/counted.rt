@@ -94,15 +94,42 @@ impl Counts {
         ensures letters { result.letters ≡ self.letters }
     {
         match counted {
-            Counted::Groups => Counts { groups: self.groups + 1, ..self },
-            Counted::Words => Counts { words: self.words + 1, ..self },
-            Counted::Subgroups => Counts { subgroups: self.subgroups + 1, ..self },
-            Counted::Maps => Counts { maps: self.maps + 1, ..self },
-            Counted::Questions => Counts { questions: self.questions + 1, ..self },
-            Counted::Generators => Counts { generators: self.generators + 1, ..self },
-            Counted::Relators => Counts { relators: self.relators + 1, ..self },
-            Counted::Members => Counts { members: self.members + 1, ..self },
-            Counted::Reports => Counts { reports: self.reports + 1, ..self },
+            Counted::Groups => Counts {
+                groups: self.groups + 1,
+                ..self
+            },
+            Counted::Words => Counts {
+                words: self.words + 1,
+                ..self
+            },
+            Counted::Subgroups => Counts {
+                subgroups: self.subgroups + 1,
+                ..self
+            },
+            Counted::Maps => Counts {
+                maps: self.maps + 1,
+                ..self
+            },
+            Counted::Questions => Counts {
+                questions: self.questions + 1,
+                ..self
+            },
+            Counted::Generators => Counts {
+                generators: self.generators + 1,
+                ..self
+            },
+            Counted::Relators => Counts {
+                relators: self.relators + 1,
+                ..self
+            },
+            Counted::Members => Counts {
+                members: self.members + 1,
+                ..self
+            },
+            Counted::Reports => Counts {
+                reports: self.reports + 1,
+                ..self
+            },
         }
     }
 

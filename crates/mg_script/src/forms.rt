@@ -9,7 +9,9 @@ ghost use Rattle.mg_script.specs.Reader.{Start, Knows, Brings, Finishes, IsOf};
 use crate::counted::Counted;
 use crate::fault::StatementFault;
 use crate::reader::Reader;
-use crate::sign::{EQUALS, Expected, NAME, NUMBER, PROCEDURE, REPORT, Role, counted_name, keyword, mark};
+use crate::sign::{
+    EQUALS, Expected, NAME, NUMBER, PROCEDURE, REPORT, Role, counted_name, keyword, mark,
+};
 use mg_lex::{Cause, Keyword, Mark};
 use mg_terms::WordRead;
 

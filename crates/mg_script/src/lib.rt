@@ -5,8 +5,10 @@ mod counted;
 mod fault;
 mod form;
 mod forms;
+mod groups;
 mod laws;
 mod lines;
+mod lists;
 mod reader;
 mod sign;
 
