@@ -1,9 +1,14 @@
 mod Cuts
-pub mod Grammar
 pub mod Rests
 pub mod Written
 pub mod Unique
 pub mod Reaches
+pub mod Standing
+pub mod Steps
+pub mod Words
+pub mod Taken
+pub mod Names
+pub mod Listing
 mod Trees
 mod LineTokens
 mod LineLexemes

@@ -2,15 +2,22 @@
 #![tactic(auto)]
 
 mod counted;
+mod fault;
 mod form;
+mod forms;
+mod groups;
 mod laws;
 mod line;
 mod lines;
+mod lists;
 mod parsing;
 mod read;
+mod reader;
 mod script;
+mod sign;
 
 pub use counted::{Counted, Counts, LETTER_LIMIT};
+pub use fault::StatementFault;
 pub use form::{Printed, Property};
 pub use laws::{a_script_or_a_refusal, one_cut, one_place, one_statement};
 pub use lines::Lines;
