@@ -154,7 +154,7 @@ shown_behind s r done ahead stand q c shown =
       piece = shown.piece;
       back = shown.back;
       split = new.2;
-      shows = subst (λ fs. Shows s.counts s.lexemes fs shown.piece q c) new.1 shown.shows;
+      shows = subst (λ fs. Shows s.counts s.lexemes fs shown.piece q c) {y = done ++ new.0} new.1 shown.shows;
     })
     (split_at shown.front shown.back done h.pieces shown.piece (sym shown.written ∙ h.split))
 

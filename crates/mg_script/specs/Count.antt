@@ -1,9 +1,12 @@
 -- What is counted in a script.
-use Rattle.std.specs.Prelude.{◌≡◌, ℕ, ◌+◌, ◌==◌, Bool, false, Option, Some, None, List, [], ◌∷◌, filter, length}
-use Rattle.mg_terms.specs.Word.{word_letters}
+use Rattle.std.specs.Prelude.{◌≡◌, ℕ, ◌+◌, ◌≤◌, ◌==◌, Bool, false, Option, Some, None, List, [], ◌∷◌, filter, length}
+use Rattle.mg_terms.specs.declared.limits.TheConstants.{WORD_LIMIT}
+use Rattle.mg_terms.specs.Event.{AreWithin, word_events}
+use Rattle.mg_terms.specs.Word.{Word, word_letters}
 use Rattle.mg_script.specs.declared.counted.Counted.{Counted}
 use Rattle.mg_script.specs.declared.counted.Counted.TheVariants as counted
 use Rattle.mg_script.specs.declared.counted.Counts.{Counts}
+use Rattle.mg_script.specs.declared.counted.TheConstants.{LETTER_LIMIT}
 use Rattle.mg_script.specs.Statement.{Piece, sign, term}
 
 -- how many there may be
@@ -65,3 +68,21 @@ letters_in (p ∷ ps) = piece_letters p + letters_in ps
 pub record Adds (ps : List Piece) (before after : Counts) : Type 0 where
   pub counted : (k : Counted) → count_of after k ≡ count_of before k + how_many k ps
   pub letters : after.letters ≡ before.letters + letters_in ps
+
+-- the counts are within their limits
+pub record AreWithinLimits (c : Counts) : Type 0 where
+  pub counted : (k : Counted) → count_of c k ≤ limit_of k
+  pub letters : c.letters ≤ LETTER_LIMIT
+
+-- a word within the limits of words, with the word on the left side of its equation
+abbrev pub left_letters : Option Word → ℕ
+left_letters None = 0
+left_letters (Some u) = word_letters u
+
+pub record IsBoundedTerm (left : Option Word) (w : Word) : Type 0 where
+  pub within : AreWithin (word_events 0 0 w)
+  pub relation : left_letters left + word_letters w ≤ WORD_LIMIT
+
+abbrev pub IsBounded : Piece → Type 0
+IsBounded (sign kind x) = Unit {0}
+IsBounded (term kind left w) = IsBoundedTerm left w

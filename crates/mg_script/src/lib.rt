@@ -9,6 +9,7 @@ mod groups;
 mod laws;
 mod lines;
 mod lists;
+mod read;
 mod reader;
 mod sign;
 
@@ -17,6 +18,7 @@ pub use fault::StatementFault;
 pub use form::{Printed, Property};
 pub use laws::{one_cut, one_place, one_statement};
 pub use lines::Lines;
+pub use read::read_statement;
 
 #[cfg(test)]
 mod tests;
