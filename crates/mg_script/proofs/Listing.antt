@@ -34,6 +34,8 @@ more_either s i r now knows = record {
   lexemes = knows.lexemes;
   place = knows.place;
   adds = knows.adds;
+  bounded = knows.bounded;
+  within = knows.within;
 }
 
 -- a list begins with a member, or it is empty

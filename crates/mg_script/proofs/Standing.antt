@@ -140,7 +140,8 @@ shown_behind s r done ahead stand q c shown =
     let e : statement_lexemes shown.statement ≡ pieces_lexemes done ++ zs =
     shown.shared ∙ ap (λ k. take k s.lexemes ++ shown.rest) place ∙ ap (λ xs. xs ++ shown.rest) (front_of s r done ahead stand m) ∙ append_assoc (pieces_lexemes done) (take m ahead) shown.rest in
     let h = shared s r done ahead stand (statement_pieces shown.statement) zs (shown.statement, refl) e (alike_front m ahead shown.rest (omega arith) (omega arith)) in
-    ⊎_elim (λ old. absurd (stand.quiet shown.front old.0 shown.piece q c old.1 shown.shows))
+    let both : shown.front ++ shown.piece ∷ shown.back ≡ done ++ h.pieces = sym shown.written ∙ h.split in
+    ⊎_elim {B = (cs : List Piece) × (shown.front ≡ done ++ cs) × (h.pieces ≡ cs ++ shown.piece ∷ shown.back)} (λ old. absurd (stand.quiet shown.front old.0 shown.piece q c old.1 shown.shows))
     (λ new. record {
       count = m;
       place = place;
@@ -154,9 +155,9 @@ shown_behind s r done ahead stand q c shown =
       piece = shown.piece;
       back = shown.back;
       split = new.2;
-      shows = subst (λ fs. Shows s.counts s.lexemes fs shown.piece q c) new.1 shown.shows;
+      shows = subst (λ fs. Shows s.counts s.lexemes fs shown.piece q c) {y = done ++ new.0} new.1 shown.shows;
     })
-    (split_at shown.front shown.back done h.pieces shown.piece (sym shown.written ∙ h.split))
+    (split_at shown.front shown.back done h.pieces shown.piece both)
 
 -- nothing of the rest begins with what is left
 abbrev pub Misses : Rest → List Lexeme → Type 0

@@ -1,6 +1,8 @@
 -- What a step of the reader brings.
-use Rattle.std.proofs.Common.{◌≡◌, ◌↔◌, ℕ, ◌+◌, ◌<◌, Bool, true, false, IsTrue, Option, Some, None, Result, Ok, Err, List, [], ◌∷◌, ◌++◌, length, filter, get_or, suc, drop, drop-cons, refl, sym, ap, subst, ◌∙◌, arith, length-append}
+use Rattle.std.proofs.Common.{◌≡◌, ◌≤◌, ◌⊎◌, inl, inr, ⊎_elim, ◌↔◌, ℕ, ◌+◌, ◌<◌, Bool, true, false, IsTrue, Option, Some, None, Result, Ok, Err, List, [], ◌∷◌, ◌++◌, length, filter, get_or, suc, drop, drop-cons, refl, sym, ap, subst, ◌∙◌, arith, length-append}
 use Rattle.std.proofs.Math.Seq.{drop-append_seam}
+use Rattle.std.specs.List.{AllByRecursion}
+use Rattle.std.proofs.lemmas.Bool.{cases_lt, eqb-true}
 use Rattle.std.proofs.lemmas.List.Elements.{filter-append}
 use Rattle.mg_lex.specs.declared.refusal.Cause.TheVariants as cause
 use Rattle.mg_terms.specs.declared.lexeme.Lexeme.{Lexeme}
@@ -10,11 +12,12 @@ use Rattle.mg_terms.specs.Word.{Word}
 use Rattle.mg_script.specs.declared.counted.Counted.{Counted}
 use Rattle.mg_script.specs.declared.counted.Counted.TheVariants as counted
 use Rattle.mg_script.specs.declared.counted.Counts.{Counts}
+use Rattle.mg_script.specs.declared.counted.TheConstants.{LETTER_LIMIT}
 use Rattle.mg_script.specs.declared.fault.StatementFault.{StatementFault}
 use Rattle.mg_script.specs.declared.reader.Reader.{Reader}
 use Rattle.mg_script.specs.declared.sign.Sign.{Sign}
 use Rattle.mg_script.specs.Statement.{Piece, sign, term, pieces_lexemes}
-use Rattle.mg_script.specs.Count.{count_of, is_one, is_counted, how_many, piece_letters, letters_in, Adds}
+use Rattle.mg_script.specs.Count.{count_of, is_one, is_counted, how_many, piece_letters, letters_in, Adds, limit_of, counted_number, IsBounded, AreWithinLimits}
 use Rattle.mg_script.specs.Cause.{IsOneTooMany, IsFirstCause}
 use Rattle.mg_script.specs.Grammar.{Class, IsIn, Rest, end, sign_then, word_then, either, Begins}
 use Rattle.mg_script.specs.Reader.{Start, Stand, Knows, Brings, Chooses, class_of, signs_then, IsNext, BeginsWord, AddsOne, numbers, Finishes}
@@ -78,6 +81,61 @@ same_count a b e counted.Relators = cc
 same_count a b e counted.Members = cc
 same_count a b e counted.Reports = cc
 
+-- the counts stay within their limits where one more isn't too many
+counted_at : ℕ → Counted
+counted_at n =
+    get_or (counted.Groups ∷ counted.Words ∷ counted.Subgroups ∷ counted.Maps ∷ counted.Questions ∷ counted.Generators ∷ counted.Relators ∷ counted.Members ∷ counted.Reports ∷ []) n counted.Groups
+
+counted_back : (k : Counted) → counted_at (counted_number k) ≡ k
+unfolding counted_at
+counted_back counted.Groups = refl
+counted_back counted.Words = refl
+counted_back counted.Subgroups = refl
+counted_back counted.Maps = refl
+counted_back counted.Questions = refl
+counted_back counted.Generators = refl
+counted_back counted.Relators = refl
+counted_back counted.Members = refl
+counted_back counted.Reports = refl
+
+one_counted : (k j : Counted) → counted_number k ≡ counted_number j → k ≡ j
+one_counted k j e = sym (counted_back k) ∙ ap counted_at e ∙ counted_back j
+
+same_or_other : (k j : Counted) → (k ≡ j) ⊎ (is_one k (Some j) ≡ false)
+same_or_other k j = by_test (is_one k (Some j)) refl
+  where
+    by_test : (b : Bool) → is_one k (Some j) ≡ b → (k ≡ j) ⊎ (is_one k (Some j) ≡ false)
+    by_test true e = inl (one_counted k j (eqb-true (counted_number k) (counted_number j) e))
+    by_test false e = inr e
+
+none_of : (k : Counted) (kind : Option Counted) → is_one k kind ≡ false → how_many k (sign kind lexeme.Name ∷ []) ≡ 0
+none_of k kind e = rw e refl
+
+at_most_one : (k : Counted) (kind : Option Counted) → how_many k (sign kind lexeme.Name ∷ []) ≤ 1
+at_most_one k kind = by_test (is_one k kind) refl
+  where
+    by_test : (b : Bool) → is_one k kind ≡ b → how_many k (sign kind lexeme.Name ∷ []) ≤ 1
+    by_test true e = rw e (omega arith)
+    by_test false e = rw e (omega arith)
+
+pub within_one : (a b : Counts) (kind : Option Counted) → AddsOne kind a b → ¬ IsOneTooMany a [] kind → AreWithinLimits a → b.letters ≤ LETTER_LIMIT → AreWithinLimits b
+within_one a b None one room within letters =
+    record { counted = λ k. omega (arith, one k, none_of k None refl, within.counted k); letters = letters }
+within_one a b (Some j) one room within letters = record { counted = counted; letters = letters }
+  where
+    with_one : count_of b j ≤ limit_of j
+    with_one =
+        ⊎_elim (λ less. omega (arith, one j, at_most_one j (Some j), less)) (λ more. absurd (room (omega (arith, more)))) (cases_lt (count_of a j) (limit_of j))
+
+    counted : (k : Counted) → count_of b k ≤ limit_of k
+    counted k =
+        ⊎_elim (λ same. subst (λ i. count_of b i ≤ limit_of i) (sym same) with_one)
+        (λ other. omega (arith, one k, none_of k (Some j) other, within.counted k)) (same_or_other k j)
+
+pub bounded_push : (ps : List Piece) (p : Piece) → AllByRecursion IsBounded ps → IsBounded p → AllByRecursion IsBounded (ps ++ p ∷ [])
+bounded_push [] p all here = (here, tt)
+bounded_push (q ∷ ps) p all here = (all.0, bounded_push ps p all.1 here)
+
 -- what is left
 pub ahead_is : (s : Start) (r : Rest) (now : Reader) (knows : Knows s r now) → drop now.place now.lexemes.now ≡ knows.ahead
 ahead_is s r now knows =
@@ -123,6 +181,8 @@ sign_taken s kind k r now counts knows next room one letters =
       lexemes = knows.lexemes;
       place = omega (arith, knows.place, ap length (pieces_push knows.done (sign kind x)), length-append (pieces_lexemes knows.done) (x ∷ []));
       adds = adds_piece s.counts now.counts counts knows.done (sign kind x) knows.adds one (omega (arith, letters));
+      bounded = bounded_push knows.done (sign kind x) knows.bounded tt;
+      within = λ start. let here = knows.within start in within_one now.counts counts kind one room here (omega (arith, letters, here.letters));
     }
 
 -- one of two
@@ -136,6 +196,8 @@ knows_first s a b now knows x xs e begins =
       lexemes = knows.lexemes;
       place = knows.place;
       adds = knows.adds;
+      bounded = knows.bounded;
+      within = knows.within;
     }
 
 pub knows_second : (s : Start) (a b : Rest) (now : Reader) (knows : Knows s (either a b) now) → Misses a knows.ahead → Knows s b now
@@ -146,6 +208,8 @@ knows_second s a b now knows misses = record {
   lexemes = knows.lexemes;
   place = knows.place;
   adds = knows.adds;
+  bounded = knows.bounded;
+  within = knows.within;
 }
 
 none_added : (counts : Counts) → AddsOne None counts counts
@@ -181,7 +245,14 @@ pub end_reached : (s : Start) (now : Reader) → Knows s end now → drop now.pl
 end_reached s now knows e =
     let left : knows.ahead ≡ [] = sym (ahead_is s end now knows) ∙ e in
     let h = finished s knows.done (subst (λ zs. Stand s end knows.done zs) left knows.stand) in
-    ((h.0.0, ap pieces_lexemes h.0.1 ∙ h.1, subst (λ ps. Adds ps s.counts now.counts) (sym h.0.1) knows.adds), h.2)
+    record {
+      statement = h.0.0;
+      lexemes = ap pieces_lexemes h.0.1 ∙ h.1;
+      adds = subst (λ ps. Adds ps s.counts now.counts) (sym h.0.1) knows.adds;
+      bounded = subst (AllByRecursion IsBounded) (sym h.0.1) knows.bounded;
+      within = knows.within;
+      faultless = h.2;
+    }
 
 -- a fault that is passed on
 pub passed_on : (s : Start) (t : Rest) (now : Reader) (result : Result Unit StatementFault) (f : StatementFault) → (y : StatementFault) × (result ≡ Err y) × (y ≡ f) → IsFirstCause s.counts s.lexemes f.place f.cause → Brings s t now result

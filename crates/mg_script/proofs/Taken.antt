@@ -18,9 +18,10 @@ use Rattle.mg_script.specs.declared.sign.Role.TheVariants as role
 use Rattle.mg_script.specs.Statement.{term, pieces_lexemes}
 use Rattle.mg_script.specs.Cause.{IsOneTooMany, IsFirstCause}
 use Rattle.mg_script.specs.Grammar.{Rest, word_then}
-use Rattle.mg_script.specs.Reader.{Start, Knows, BeginsWord, AddsOne, IsOf, kind_of, IsLeft, left_letters, numbers}
+use Rattle.mg_script.specs.Count.{left_letters}
+use Rattle.mg_script.specs.Reader.{Start, Knows, BeginsWord, AddsOne, IsOf, kind_of, IsLeft, numbers}
 use Rattle.mg_script.proofs.Standing.{pieces_push, word_length}
-use Rattle.mg_script.proofs.Steps.{adds_piece, full_since, room_since, same_count, ahead_is}
+use Rattle.mg_script.proofs.Steps.{adds_piece, bounded_push, within_one, full_since, room_since, same_count, ahead_is}
 use Rattle.mg_script.proofs.Words.{word_taken, word_passed, word_long, word_many, word_refused, word_full}
 
 -- a word that is counted has no left side
@@ -98,5 +99,7 @@ module _ (s : Start) (kind : Option Counted) (left : Option Word) (f : Word → 
           lexemes = knows.lexemes;
           place = omega (arith, knows.place, count, ap length (pieces_push knows.done (term kind left w)), length-append (pieces_lexemes knows.done) (word_lexemes w));
           adds = adds_piece s.counts now.counts new knows.done (term kind left w) knows.adds (λ k. same_count new middle same k ∙ one k) (omega (arith, letters, before, here.letters));
+          bounded = bounded_push knows.done (term kind left w) knows.bounded (record { within = here.within; relation = omega (arith, short, here.letters) });
+          within = λ start. within_one now.counts new kind (λ k. same_count new middle same k ∙ one k) room (knows.within start) (omega (arith, letters, before, few));
         },
       )

@@ -24,10 +24,10 @@ use Rattle.mg_script.specs.declared.counted.Counted.{Counted}
 use Rattle.mg_script.specs.declared.counted.Counts.{Counts}
 use Rattle.mg_script.specs.declared.counted.TheConstants.{LETTER_LIMIT}
 use Rattle.mg_script.specs.Statement.{Piece, sign, term, pieces_lexemes, name_alone, Statement, statement_pieces, statement_lexemes}
-use Rattle.mg_script.specs.Count.{letters_in}
+use Rattle.mg_script.specs.Count.{letters_in, left_letters}
 use Rattle.mg_script.specs.Cause.{IsStatement, IsReach, IsWhole, IsOneTooMany, Shows, one_sign_too_many, one_word_too_many, in_word, long_relation, too_many_letters, IsShown, Stands, IsFirstCause}
 use Rattle.mg_script.specs.Grammar.{Rest, word_then, Reads, reads_word}
-use Rattle.mg_script.specs.Reader.{Start, IsWriting, BeginAlike, Stand, left_letters}
+use Rattle.mg_script.specs.Reader.{Start, IsWriting, BeginAlike, Stand}
 use Rattle.mg_script.proofs.Rests.{sample, word_first, word_inv}
 use Rattle.mg_script.proofs.Unique.{ends_word}
 use Rattle.mg_script.proofs.Reaches.{reach_past, one_reach}

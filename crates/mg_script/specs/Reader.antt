@@ -1,5 +1,6 @@
 -- What a reader of statements knows of what it has read, and what its steps bring.
 use Rattle.std.specs.Prelude.{◌≡◌, ℕ, ◌≤◌, Bool, true, false, Option, Some, None, Result, Ok, Err, List, [], ◌∷◌, ◌++◌, ◌+◌, ◌-◌, length, drop}
+use Rattle.std.specs.List.{AllByRecursion}
 use Rattle.mg_lex.specs.declared.refusal.Cause.{Cause}
 use Rattle.mg_terms.specs.declared.lexeme.Lexeme.{Lexeme}
 use Rattle.mg_terms.specs.declared.lexeme.Lexeme.TheVariants as lexeme
@@ -16,7 +17,7 @@ use Rattle.mg_script.specs.declared.sign.Role.{Role}
 use Rattle.mg_script.specs.declared.sign.Role.TheVariants as role
 use Rattle.mg_script.specs.declared.reader.Reader.{Reader}
 use Rattle.mg_script.specs.Statement.{Piece, sign, Statement, statement_pieces, statement_lexemes, pieces_lexemes}
-use Rattle.mg_script.specs.Count.{count_of, how_many, Adds}
+use Rattle.mg_script.specs.Count.{count_of, how_many, Adds, IsBounded, AreWithinLimits}
 use Rattle.mg_script.specs.Cause.{Shows, IsShown, IsFaultless, IsFirstCause}
 use Rattle.mg_script.specs.Grammar.{Class, this, a_number, a_procedure, a_property, IsIn, Rest, sign_then, Reads, Tells}
 
@@ -55,16 +56,26 @@ pub record Knows (s : Start) (r : Rest) (now : Reader) : Type 0 where
   pub lexemes : now.lexemes.now ≡ s.lexemes
   pub place : now.place ≡ length (pieces_lexemes done)
   pub adds : Adds done s.counts now.counts
+  pub bounded : AllByRecursion IsBounded done
+  pub within : AreWithinLimits s.counts → AreWithinLimits now.counts
 
 -- what a step brings: the rest may follow, or the first cause is found
 abbrev pub Brings : Start → Rest → Reader → Result Unit StatementFault → Type 0
 Brings s r new (Ok u) = Knows s r new
 Brings s r new (Err f) = IsFirstCause s.counts s.lexemes f.place f.cause
 
+-- the lexemes are a statement within the limits, with the counts behind it
+pub record IsFinished (s : Start) (after : Counts) : Type 0 where
+  pub statement : Statement
+  pub lexemes : statement_lexemes statement ≡ s.lexemes
+  pub adds : Adds (statement_pieces statement) s.counts after
+  pub bounded : AllByRecursion IsBounded (statement_pieces statement)
+  pub within : AreWithinLimits s.counts → AreWithinLimits after
+  pub faultless : IsFaultless s.counts s.lexemes
+
 -- what the end of the lexemes brings: they are a statement, or the first cause is found
 abbrev pub Finishes : Start → Reader → Result Unit StatementFault → Type 0
-Finishes s now (Ok u) =
-    ((t : Statement) × (statement_lexemes t ≡ s.lexemes) × Adds (statement_pieces t) s.counts now.counts) × IsFaultless s.counts s.lexemes
+Finishes s now (Ok u) = IsFinished s now.counts
 Finishes s now (Err f) = IsFirstCause s.counts s.lexemes f.place f.cause
 
 -- one of two comes
@@ -102,11 +113,6 @@ abbrev pub IsLeft : Role → Option Word → Type 0
 IsLeft role.Plain left = left ≡ None
 IsLeft (role.Counted k) left = left ≡ None
 IsLeft (role.RightSide n) left = (u : Word) × (left ≡ Some u) × (word_letters u ≡ n)
-
--- the letters of the left side, if there is one
-abbrev pub left_letters : Option Word → ℕ
-left_letters None = 0
-left_letters (Some u) = word_letters u
 
 -- how many lexemes aren't read
 abbrev pub unread : Reader → ℕ

@@ -16,6 +16,25 @@ use mg_lex::{Cause, Keyword, Mark};
 use mg_terms::WordRead;
 
 impl<'a> Reader<'a> {
+    /// Takes a statement.
+    pub(crate) fn statement(&mut self) -> Result<(), StatementFault>
+        ensures { (s : Start) → Knows s statement_rest self.old → Brings s end self.new result }
+    {
+        if self.takes_keyword(Keyword::Group) {
+            self.group()
+        } else if self.takes_keyword(Keyword::Word) {
+            self.word_statement()
+        } else if self.takes_keyword(Keyword::Subgroup) {
+            self.subgroup()
+        } else if self.takes_keyword(Keyword::Map) {
+            self.map()
+        } else if self.takes_keyword(Keyword::Ask) {
+            self.ask()
+        } else {
+            self.command()
+        }
+    }
+
     /// Takes a statement that spends or prints.
     fn command(&mut self) -> Result<(), StatementFault>
         ensures { (s : Start) → Knows s from_fund self.old → Brings s end self.new result }

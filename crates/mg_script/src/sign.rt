@@ -4,7 +4,8 @@ ghost use Rattle.std.specs.Prelude.{◌≡◌, ◌↔◌, Option as OptionOf, No
 ghost use Rattle.mg_terms.specs.Word.{Word};
 ghost use Rattle.mg_script.specs.Grammar.{a_number, a_procedure, a_property, IsIn};
 ghost use Rattle.mg_script.specs.Statement.{property_keyword, procedure_keyword};
-ghost use Rattle.mg_script.specs.Reader.{class_of, kind_of, left_letters, IsLeft};
+ghost use Rattle.mg_script.specs.Reader.{class_of, kind_of, IsLeft};
+ghost use Rattle.mg_script.specs.Count.{left_letters};
 
 use crate::counted::Counted;
 use crate::form::Property;

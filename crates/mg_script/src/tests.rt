@@ -1,4 +1,6 @@
 use super::*;
+use mg_lex::{Cause, Keyword, Mark};
+use mg_terms::Lexeme;
 use std::test::*;
 
 /// Whether these are the three lines of the bytes.
@@ -31,4 +33,135 @@ fn laws_are_called(rt: HostRuntime) {
     one_place();
     assert!(rt; Property::Trivial != Property::Onto);
     assert!(rt; Printed::Facts != Printed::Log);
+}
+
+const NOTHING: Counts = Counts {
+    groups: 0,
+    words: 0,
+    subgroups: 0,
+    maps: 0,
+    questions: 0,
+    generators: 0,
+    relators: 0,
+    members: 0,
+    reports: 0,
+    letters: 0,
+};
+
+const NAME: Lexeme = Lexeme::Name;
+
+const COLON: Lexeme = Lexeme::Mark(Mark::Colon);
+
+const EQUALS: Lexeme = Lexeme::Mark(Mark::Equals);
+
+const IN: Lexeme = Lexeme::Keyword(Keyword::In);
+
+const ASK: Lexeme = Lexeme::Keyword(Keyword::Ask);
+
+/// Whether the lexemes are a statement.
+fn is_read(lexemes: &[Lexeme]) -> bool {
+    read_statement(lexemes, NOTHING).is_ok()
+}
+
+/// Whether the lexemes are refused at the place.
+fn is_refused(lexemes: &[Lexeme], place: usize, cause: Cause) -> bool {
+    match read_statement(lexemes, NOTHING) {
+        Ok(_) => false,
+        Err(fault) => fault == StatementFault { place, cause },
+    }
+}
+
+fn keyword(keyword: Keyword) -> Lexeme {
+    Lexeme::Keyword(keyword)
+}
+
+#[test]
+fn questions_are_read(rt: HostRuntime) {
+    assert!(rt; is_read(&[ASK, NAME, COLON, NAME, EQUALS, NAME, NAME, IN, NAME]));
+    assert!(rt; is_read(&[ASK, NAME, COLON, NAME, IN, NAME]));
+    assert!(rt; is_read(&[ASK, NAME, COLON, NAME, IN, keyword(Keyword::Kernel), NAME]));
+    assert!(rt; is_read(&[ASK, NAME, COLON, NAME, keyword(Keyword::Central), IN, NAME]));
+    assert!(rt; is_read(&[ASK, NAME, COLON, NAME, keyword(Keyword::Trivial)]));
+    assert!(rt; is_read(&[ASK, NAME, COLON, NAME, keyword(Keyword::Onto)]));
+}
+
+#[test]
+fn only_names_have_properties(rt: HostRuntime) {
+    let trivial = keyword(Keyword::Trivial);
+    assert!(rt;
+        is_refused(
+            &[ASK, NAME, COLON, NAME, NAME, trivial],
+            5,
+            Cause::Unexpected
+        )
+    );
+    assert!(rt;
+        is_refused(
+            &[ASK, NAME, COLON, Lexeme::Number(1), trivial],
+            4,
+            Cause::Unexpected
+        )
+    );
+}
+
+#[test]
+fn commands_are_read(rt: HostRuntime) {
+    let run = keyword(Keyword::Run);
+    assert!(rt; is_read(&[run]));
+    assert!(rt; is_read(&[run, Lexeme::Number(5)]));
+    assert!(rt; is_read(&[keyword(Keyword::Fund), Lexeme::Number(1)]));
+    assert!(rt;
+        is_read(&[
+            keyword(Keyword::Grant),
+            NAME,
+            keyword(Keyword::Act),
+            Lexeme::Number(1)
+        ])
+    );
+    assert!(rt; is_read(&[keyword(Keyword::Cancel), NAME, keyword(Keyword::Recall)]));
+    assert!(rt; is_refused(&[keyword(Keyword::Fund)], 1, Cause::Unexpected));
+    assert!(rt;
+        is_refused(
+            &[run, Lexeme::Number(5), Lexeme::Number(5)],
+            2,
+            Cause::Unexpected
+        )
+    );
+}
+
+#[test]
+fn reports_are_counted(rt: HostRuntime) {
+    let report = keyword(Keyword::Report);
+    assert!(rt; is_read(&[report]));
+    assert!(rt; is_read(&[report, keyword(Keyword::Facts)]));
+    assert!(rt; is_read(&[report, keyword(Keyword::Log)]));
+    let many = Counts {
+        reports: 64,
+        ..NOTHING
+    };
+    let fault = StatementFault {
+        place: 0,
+        cause: Cause::TooMany,
+    };
+    assert!(rt; read_statement(&[report], many) == Err(fault));
+}
+
+#[test]
+fn words_are_counted(rt: HostRuntime) {
+    let word = [keyword(Keyword::Word), NAME, IN, NAME, EQUALS, NAME, NAME];
+    let after = Counts {
+        words: 1,
+        letters: 2,
+        ..NOTHING
+    };
+    assert!(rt; read_statement(&word, NOTHING) == Ok(after));
+    let full = Counts {
+        letters: 999_999,
+        ..NOTHING
+    };
+    let fault = StatementFault {
+        place: 6,
+        cause: Cause::TooMany,
+    };
+    assert!(rt; read_statement(&word, full) == Err(fault));
 }

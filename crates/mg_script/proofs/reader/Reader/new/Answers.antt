@@ -10,4 +10,6 @@ returns c = record {
   lexemes = refl;
   place = refl;
   adds = adds_nothing c.args.counts;
+  bounded = tt;
+  within = λ within. within;
 }
