@@ -1,6 +1,8 @@
 use super::*;
-use mg_lex::{Cause, Keyword, Mark};
+use mg_lex::{Cause, Keyword, Mark, Refused, Text};
+use mg_lists::NoMemory;
 use mg_terms::Lexeme;
+use std::alloc::Global;
 use std::test::*;
 
 /// Whether these are the three lines of the bytes.
@@ -31,6 +33,7 @@ fn laws_are_called(rt: HostRuntime) {
     one_cut();
     one_statement();
     one_place();
+    a_script_or_a_refusal();
     assert!(rt; Property::Trivial != Property::Onto);
     assert!(rt; Printed::Facts != Printed::Log);
 }
@@ -164,4 +167,174 @@ fn words_are_counted(rt: HostRuntime) {
         cause: Cause::TooMany,
     };
     assert!(rt; read_statement(&word, full) == Err(fault));
+}
+
+/// The bytes, and then so many times the piece.
+fn repeated(alloc: Global, bytes: &[u8], piece: &[u8], count: usize) -> Result<Text, NoMemory> {
+    let mut text = Text::new(alloc);
+    for byte in bytes {
+        text.push(*byte)?;
+    }
+    for _ in 0..count {
+        for byte in piece {
+            text.push(*byte)?;
+        }
+    }
+    Ok(text)
+}
+
+/// The script of some bytes, which are few enough.
+fn script_of(alloc: Global, bytes: &[u8]) -> Result<Script, ParseRefused> {
+    if bytes.len() >= u32::MAX as usize {
+        return Err(ParseRefused::NoMemory);
+    }
+    parse(alloc, bytes)
+}
+
+/// Whether the bytes are a script with so many statements.
+fn is_script(alloc: Global, bytes: &[u8], count: usize) -> bool {
+    match script_of(alloc, bytes) {
+        Ok(script) => script.as_slice().len() == count,
+        Err(_) => false,
+    }
+}
+
+fn refused_at(alloc: Global, bytes: &[u8], line: u32, column: u32, cause: Cause) -> bool {
+    match script_of(alloc, bytes) {
+        Err(ParseRefused::Refused(refused)) => refused
+            == Refused {
+                line,
+                column,
+                cause,
+            },
+        _ => false,
+    }
+}
+
+const GROUP: &[u8] = b"group G = < a | >\n";
+
+/// Whether the line is read behind that of a group.
+fn follows(alloc: Global, line: &[u8]) -> bool {
+    match repeated(alloc, GROUP, line, 1) {
+        Ok(script) => is_script(alloc, script.as_slice(), 2),
+        Err(_) => false,
+    }
+}
+
+fn follows_not(alloc: Global, line: &[u8], column: u32, cause: Cause) -> bool {
+    match repeated(alloc, GROUP, line, 1) {
+        Ok(script) => refused_at(alloc, script.as_slice(), 2, column, cause),
+        Err(_) => false,
+    }
+}
+
+#[test]
+fn words_are_read(rt: HostRuntime) {
+    let alloc = rt.alloc();
+    assert!(rt; follows(alloc, b"word w in G = (a^100)^100"));
+    assert!(rt; follows(alloc, b"word w in G = 1^4611686018427387904"));
+    assert!(rt; follows(alloc, b"word w in G = 01"));
+    assert!(rt; follows(alloc, b"word w in G = 1^5"));
+}
+
+#[test]
+fn words_are_refused(rt: HostRuntime) {
+    let alloc = rt.alloc();
+    assert!(rt;
+        follows_not(
+            alloc,
+            b"word w in G = ((a^100)^100)^2",
+            29,
+            Cause::WordTooLong
+        )
+    );
+    assert!(rt; follows_not(alloc, b"ask q : a^10001 = 1 in G", 11, Cause::WordTooLong));
+    assert!(rt;
+        follows_not(
+            alloc,
+            b"word w in G = a^4611686018427387905",
+            17,
+            Cause::NumberTooLarge
+        )
+    );
+    assert!(rt;
+        follows_not(
+            alloc,
+            b"word w in G = 99999999999999999999",
+            15,
+            Cause::Unexpected
+        )
+    );
+}
+
+#[test]
+fn lines_end_too_early(rt: HostRuntime) {
+    let alloc = rt.alloc();
+    assert!(rt; follows_not(alloc, b"word w in G =", 14, Cause::Unexpected));
+    assert!(rt; follows_not(alloc, b"word w in G = ", 15, Cause::Unexpected));
+    assert!(rt; follows_not(alloc, b"word w in G =  # a\n", 19, Cause::Unexpected));
+}
+
+#[test]
+fn brackets_are_counted(rt: HostRuntime) -> Result<(), Fail> {
+    let alloc = rt.alloc();
+    let line = repeated(alloc, b"word w in G = ", b"(", 257)?;
+    assert!(rt; follows_not(alloc, line.as_slice(), 271, Cause::TooMany));
+    Ok(())
+}
+
+#[test]
+fn groups_are_counted(rt: HostRuntime) -> Result<(), Fail> {
+    let alloc = rt.alloc();
+    let most = repeated(alloc, b"", GROUP, 64)?;
+    assert!(rt; is_script(alloc, most.as_slice(), 64));
+    let more = repeated(alloc, b"", GROUP, 65)?;
+    assert!(rt; refused_at(alloc, more.as_slice(), 65, 7, Cause::TooMany));
+    Ok(())
+}
+
+#[test]
+fn lines_without_tokens_are_skipped(rt: HostRuntime) {
+    let alloc = rt.alloc();
+    assert!(rt; is_script(alloc, b"", 0));
+    assert!(rt; is_script(alloc, b"\r\n# fund\n\t\n", 0));
+    assert!(rt; is_script(alloc, b"group\tG=<a>\r\n#\n run # all\n\treport facts", 3));
+    assert!(rt; is_script(alloc, b"group G = < a | 1 >\r\n", 1));
+}
+
+#[test]
+fn bytes_are_refused(rt: HostRuntime) {
+    let alloc = rt.alloc();
+    assert!(rt; refused_at(alloc, b"run\r", 1, 4, Cause::BadByte));
+    assert!(rt; refused_at(alloc, b"# \x7f\n", 1, 3, Cause::BadByte));
+    assert!(rt; refused_at(alloc, b"run 1 $", 1, 7, Cause::BadToken));
+}
+
+#[test]
+fn the_first_cause_wins(rt: HostRuntime) {
+    let alloc = rt.alloc();
+    assert!(rt; refused_at(alloc, b"run run # \x7f", 1, 5, Cause::Unexpected));
+    assert!(rt; refused_at(alloc, b"report fa\x7fcts", 1, 8, Cause::Unexpected));
+    assert!(rt; refused_at(alloc, b"run # \x7f\nrun run", 1, 7, Cause::BadByte));
+}
+
+/// Whether the bytes have one statement, on this line, of these bytes and so many tokens.
+fn is_kept(alloc: Global, bytes: &[u8], number: u32, line: &[u8], count: usize) -> bool {
+    let Ok(script) = script_of(alloc, bytes) else {
+        return false;
+    };
+    match script.as_slice() {
+        [kept] => kept.number == number
+            && kept.bytes.as_slice() == line
+            && kept.tokens.as_slice().len() == count
+            && kept.lexemes.as_slice().len() == count,
+        _ => false,
+    }
+}
+
+#[test]
+fn statements_are_kept(rt: HostRuntime) {
+    let alloc = rt.alloc();
+    assert!(rt; is_kept(alloc, b"\n#\n\tfund 5 # x\r\n", 3, b"\tfund 5 # x", 2));
+    assert!(rt; is_kept(alloc, b"cancel q act", 1, b"cancel q act", 3));
 }
