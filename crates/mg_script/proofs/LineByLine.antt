@@ -1,7 +1,6 @@
 -- Lines are read one by one.
-use Rattle.std.proofs.Common.{◌≡◌, ℕ, ◌+◌, ◌<◌, ◌≤◌, List, [], ◌∷◌, ◌++◌, length, refl, sym, ap, subst, ◌∙◌, arith, ◌⊎◌, inl, inr, append_assoc, append-nil, length-append, lit≤}
+use Rattle.std.proofs.Common.{◌≡◌, ℕ, ◌+◌, ◌<◌, ◌≤◌, List, [], ◌∷◌, ◌++◌, length, refl, sym, ap, subst, ◌∙◌, arith, inl, inr, append_assoc, append-nil, length-append, lit≤}
 use Rattle.mg_lex.specs.declared.refusal.Refused.{Refused}
-use Rattle.mg_lex.specs.declared.refusal.Cause.{Cause}
 use Rattle.mg_script.specs.declared.counted.Counted.{Counted}
 use Rattle.mg_script.specs.declared.counted.Counted.TheVariants as counted
 use Rattle.mg_script.specs.declared.counted.Counts.{Counts}

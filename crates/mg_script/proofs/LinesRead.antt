@@ -1,5 +1,5 @@
 -- What is read of a line, and what is answered of it.
-use Rattle.std.proofs.Common.{◌≡◌, ℕ, ◌+◌, ◌-◌, ◌<◌, ◌≤◌, List, [], ◌∷◌, ◌++◌, length, get_or, refl, sym, subst, arith, ◌⊎◌, inl, inr, ⊎_elim, append-nil}
+use Rattle.std.proofs.Common.{◌≡◌, ℕ, ◌+◌, ◌<◌, ◌≤◌, List, [], ◌∷◌, ◌++◌, length, get_or, refl, sym, subst, arith, ◌⊎◌, inl, inr, ⊎_elim, append-nil}
 use Rattle.std.specs.Prelude.{Option, Some, None, MatchOption, slice_get, Result, Ok, Err, IfOk}
 use Rattle.std.specs.List.{AllZip}
 use Rattle.std.proofs.lemmas.Option.{slice_get_read, slice_get_past, slice_get_cases}
@@ -9,7 +9,6 @@ use Rattle.mg_lex.specs.declared.token.Token.{Token}
 use Rattle.mg_lex.specs.Cause as lex
 use Rattle.mg_lex.specs.Refusal.{place_of, IsRefusal}
 use Rattle.mg_terms.specs.declared.lexeme.Lexeme.{Lexeme}
-use Rattle.mg_terms.specs.Lexeme.{IsLexemeOf}
 use Rattle.mg_script.specs.declared.counted.Counts.{Counts}
 use Rattle.mg_script.specs.declared.line.LineRead.{LineRead}
 use Rattle.mg_script.specs.Cause.{IsFaultless, IsFirstCause}

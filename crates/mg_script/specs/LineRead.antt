@@ -1,5 +1,5 @@
 -- What is read of one line of a script.
-use Rattle.std.specs.Prelude.{◌≡◌, ◌≢◌, ◌⊎◌, ℕ, ◌<◌, ◌≤◌, Option, Some, None, MatchOption, List, []}
+use Rattle.std.specs.Prelude.{◌≡◌, ◌⊎◌, ℕ, ◌<◌, ◌≤◌, None, MatchOption, List, []}
 use Rattle.std.specs.List.{AllByRecursion, AllZip}
 use Rattle.mg_lex.specs.declared.refusal.Cause.{Cause}
 use Rattle.mg_lex.specs.declared.refusal.Refused.{Refused}
@@ -11,7 +11,7 @@ use Rattle.mg_terms.specs.Lexeme.{IsLexemeOf}
 use Rattle.mg_script.specs.declared.counted.Counts.{Counts}
 use Rattle.mg_script.specs.declared.line.LineRead.{LineRead}
 use Rattle.mg_script.specs.Count.{Adds, IsBounded, AreWithinLimits}
-use Rattle.mg_script.specs.Script.{ReadsAs, AreRead, LineIsFaultless, IsFirstInLine}
+use Rattle.mg_script.specs.Script.{ReadsAs, AreRead, IsFirstInLine}
 use Rattle.mg_script.specs.Statement.{Statement, statement_pieces, statement_lexemes}
 
 -- the bytes of the line show no cause, and all its tokens are read

@@ -11,8 +11,8 @@ ghost use Rattle.mg_script.specs.LineRead.{IsReadOf, IsWhole, IsBlank, IsNoLater
 ghost use Rattle.mg_script.specs.Script.{AreRead, ReadsAs, IsTooLarge, LineIsFaultless, IsKept, IsSkipped};
 
 use crate::counted::Counts;
-use crate::parsing::ParseRefused;
 use crate::fault::StatementFault;
+use crate::parsing::ParseRefused;
 use crate::read::read_statement;
 use crate::script::ScriptLine;
 use mg_lex::{FirstFault, NUMBER_LIMIT, Refused, Text, Token, TokenKind, Tokens, lex, value_of};

@@ -1,5 +1,5 @@
 use Rattle.std.proofs.Common.{◌≡◌, ◌+◌, refl, ap, subst}
-use Rattle.std.specs.Prelude.{Err, Some, None, IfSome, IfNone, Option}
+use Rattle.std.specs.Prelude.{Err, IfSome, IfNone, Option}
 use Rattle.std.proofs.lemmas.Result.{err_from_is_err_and}
 use Rattle.mg_script.specs.declared.line.KeptLine.{KeptLine}
 use Rattle.mg_script.specs.declared.parsing.ParseRefused.TheVariants as refusal
