@@ -1,12 +1,10 @@
 -- What the members of a list bring.
-use Rattle.std.proofs.Common.{◌≡◌, ◌⊎◌, inl, inr, ⊎_elim, ◌↔◌, Bool, true, false, IsTrue, Some, None, List, [], ◌∷◌, ◌++◌, drop, refl, sym, subst, ◌∙◌}
-use Rattle.mg_lex.specs.declared.mark.Mark.TheVariants as mark
+use Rattle.std.proofs.Common.{◌≡◌, ⊎_elim, List, [], ◌∷◌, refl, ◌∙◌}
 use Rattle.mg_terms.specs.declared.lexeme.Lexeme.{Lexeme}
-use Rattle.mg_terms.specs.declared.lexeme.Lexeme.TheVariants as lexeme
 use Rattle.mg_script.specs.declared.reader.Reader.{Reader}
 use Rattle.mg_script.specs.Statement.{Piece}
-use Rattle.mg_script.specs.Grammar.{Item, listed_name, listed_word, listed_relation, listed_arrow, this, Rest, either, more, item_then, comma_then, list_then, Begins, CanEnd, reads_first, reads_second, reads_more, reads_last}
-use Rattle.mg_script.specs.Reader.{Start, Stand, Knows, Chooses}
+use Rattle.mg_script.specs.Grammar.{Item, listed_name, listed_word, listed_relation, listed_arrow, Rest, either, more, item_then, comma_then, list_then, Begins, CanEnd, reads_first, reads_second, reads_more, reads_last}
+use Rattle.mg_script.specs.Reader.{Start, Stand, Knows}
 use Rattle.mg_script.specs.Lists.{BeginsRest}
 use Rattle.mg_script.proofs.Rests.{either_inv, more_cases}
 use Rattle.mg_script.proofs.Unique.{comma_tells, more_split}

@@ -133,31 +133,37 @@ shown_behind s r done ahead stand q c shown =
     let early = stand.early q c shown in
     let all = all_count s r done ahead stand in
     let inside = shown.within in
-    let n = length (pieces_lexemes done) in
-    let m = q + 1 - n in
-    let place : q + 1 ≡ n + m = omega arith in
+    let m = q + 1 - length (pieces_lexemes done) in
+    let place : q + 1 ≡ length (pieces_lexemes done) + m = omega arith in
     let zs = take m ahead ++ shown.rest in
     let e : statement_lexemes shown.statement ≡ pieces_lexemes done ++ zs =
     shown.shared ∙ ap (λ k. take k s.lexemes ++ shown.rest) place ∙ ap (λ xs. xs ++ shown.rest) (front_of s r done ahead stand m) ∙ append_assoc (pieces_lexemes done) (take m ahead) shown.rest in
-    let h = shared s r done ahead stand (statement_pieces shown.statement) zs (shown.statement, refl) e (alike_front m ahead shown.rest (omega arith) (omega arith)) in
-    let both : shown.front ++ shown.piece ∷ shown.back ≡ done ++ h.pieces = sym shown.written ∙ h.split in
-    ⊎_elim {B = (cs : List Piece) × (shown.front ≡ done ++ cs) × (h.pieces ≡ cs ++ shown.piece ∷ shown.back)} (λ old. absurd (stand.quiet shown.front old.0 shown.piece q c old.1 shown.shows))
-    (λ new. record {
+    behind m place (omega arith) (omega arith)
+    (shared s r done ahead stand (statement_pieces shown.statement) zs (shown.statement, refl) e (alike_front m ahead shown.rest (omega arith) (omega arith)))
+  where
+    new_one : (m : ℕ) → q + 1 ≡ length (pieces_lexemes done) + m → 1 ≤ m → m ≤ length ahead → (h : Shared r done (statement_pieces shown.statement) (take m ahead ++ shown.rest)) →
+        (cs : List Piece) → shown.front ≡ done ++ cs → h.pieces ≡ cs ++ shown.piece ∷ shown.back → ShownBehind s r done ahead q c
+    new_one m place some within h cs front split = record {
       count = m;
       place = place;
-      some = omega arith;
-      within = omega arith;
+      some = some;
+      within = within;
       pieces = h.pieces;
       reads = h.reads;
       rest = shown.rest;
       lexemes = h.lexemes;
-      front = new.0;
+      front = cs;
       piece = shown.piece;
       back = shown.back;
-      split = new.2;
-      shows = subst (λ fs. Shows s.counts s.lexemes fs shown.piece q c) {y = done ++ new.0} new.1 shown.shows;
-    })
-    (split_at shown.front shown.back done h.pieces shown.piece both)
+      split = split;
+      shows = subst (λ fs. Shows s.counts s.lexemes fs shown.piece q c) front shown.shows;
+    }
+
+    behind : (m : ℕ) → q + 1 ≡ length (pieces_lexemes done) + m → 1 ≤ m → m ≤ length ahead → Shared r done (statement_pieces shown.statement) (take m ahead ++ shown.rest) → ShownBehind s r done ahead q c
+    behind m place some within h =
+        ⊎_elim (λ old. absurd (stand.quiet shown.front old.0 shown.piece q c old.1 shown.shows))
+        (λ new. new_one m place some within h new.0 new.1 new.2)
+        (split_at shown.front shown.back done h.pieces shown.piece (sym shown.written ∙ h.split))
 
 -- nothing of the rest begins with what is left
 abbrev pub Misses : Rest → List Lexeme → Type 0

@@ -23,20 +23,15 @@ use Rattle.mg_terms.proofs.Beginnings.{overlap, one_end}
 use Rattle.mg_script.specs.declared.counted.Counted.{Counted}
 use Rattle.mg_script.specs.declared.counted.Counts.{Counts}
 use Rattle.mg_script.specs.declared.counted.TheConstants.{LETTER_LIMIT}
-use Rattle.mg_script.specs.Statement.{Piece, sign, term, pieces_lexemes, name_alone, Statement, statement_pieces, statement_lexemes}
+use Rattle.mg_script.specs.Statement.{Piece, term, pieces_lexemes, name_alone, Statement, statement_pieces, statement_lexemes}
 use Rattle.mg_script.specs.Count.{letters_in, left_letters}
-use Rattle.mg_script.specs.Cause.{IsStatement, IsReach, IsWhole, IsOneTooMany, Shows, one_sign_too_many, one_word_too_many, in_word, long_relation, too_many_letters, IsShown, Stands, IsFirstCause}
+use Rattle.mg_script.specs.Cause.{IsStatement, IsReach, IsWhole, IsOneTooMany, Shows, one_word_too_many, in_word, long_relation, too_many_letters, IsShown, Stands, IsFirstCause}
 use Rattle.mg_script.specs.Grammar.{Rest, word_then, Reads, reads_word}
 use Rattle.mg_script.specs.Reader.{Start, IsWriting, BeginAlike, Stand}
-use Rattle.mg_script.proofs.Rests.{sample, word_first, word_inv}
+use Rattle.mg_script.proofs.Rests.{sample, word_inv}
 use Rattle.mg_script.proofs.Unique.{ends_word}
+use Rattle.mg_script.proofs.Standing.{pieces_append, word_length, shows_from}
 use Rattle.mg_script.proofs.Reaches.{reach_past, one_reach}
-
--- pieces, and where one stands
-pieces_joined : (ps qs : List Piece) → pieces_lexemes (ps ++ qs) ≡ pieces_lexemes ps ++ pieces_lexemes qs
-pieces_joined [] qs = refl
-pieces_joined (sign kind x ∷ ps) qs = ap (λ xs. x ∷ xs) (pieces_joined ps qs)
-pieces_joined (term kind left w ∷ ps) qs = ap (λ xs. word_lexemes w ++ xs) (pieces_joined ps qs) ∙ sym (append_assoc (word_lexemes w) (pieces_lexemes ps) (pieces_lexemes qs))
 
 -- a piece is one of those that are read, the next one or a later one
 abbrev IsPlaced : List Piece → Piece → List Piece → Piece → Type 0
@@ -56,17 +51,6 @@ placed (d ∷ done) p ps (f ∷ front) piece back e =
 
 placed_in : (qs done : List Piece) (p : Piece) (ps front : List Piece) (piece : Piece) (back : List Piece) → qs ≡ done ++ p ∷ ps → qs ≡ front ++ piece ∷ back → IsPlaced done p front piece
 placed_in qs done p ps front piece back e f = placed done p ps front piece back (sym e ∙ f)
-
-word_some : (w : Word) → 1 ≤ length (word_lexemes w)
-word_some w = let h = word_first w in omega (arith, ap length h.2)
-
--- no piece shows a cause before its first lexeme
-shows_late : (counts : Counts) (xs : List Lexeme) (front : List Piece) (piece : Piece) (p : ℕ) (c : Cause) → Shows counts xs front piece p c → length (pieces_lexemes front) ≤ p
-shows_late _ _ _ _ _ _ (one_sign_too_many kind x p at over) = omega (arith, at)
-shows_late _ _ _ _ _ _ (one_word_too_many kind left w p at over) = omega (arith, at)
-shows_late _ _ _ _ _ _ (in_word kind left w p q c at shown) = omega (arith, at)
-shows_late _ _ _ _ _ _ (long_relation kind u v p whole long) = omega (arith, whole.last, word_some v)
-shows_late _ _ _ _ _ _ (too_many_letters kind left w p whole many) = omega (arith, whole.last, word_some w)
 
 -- what a word shows
 pub data TermShows (counts : Counts) (xs : List Lexeme) (front : List Piece) (kind : Option Counted) (left : Option Word) (w : Word) (p : ℕ) (c : Cause) : Type 0 where
@@ -268,7 +252,7 @@ base_one (commutator u v) e = absurd (omega (arith, e, length-append (word_lexem
 factor_one : (g : Factor) → length (factor_lexemes g) ≡ 1 → factor_letters g ≤ 1
 factor_one (bare b) e = base_one b e
 factor_one (power b negative n) e =
-    absurd (omega (arith, e, word_some (single (bare b)), length-append (base_lexemes b) (lexeme.Mark mark.Caret ∷ (minus_lexemes negative ++ lexeme.Number n ∷ []))))
+    absurd (omega (arith, e, word_length (single (bare b)), length-append (base_lexemes b) (lexeme.Mark mark.Caret ∷ (minus_lexemes negative ++ lexeme.Number n ∷ []))))
 
 mutual
   base_short : (k d : ℕ) (b : Base) → AllByRecursion (IsShort k) (base_events k d b)
@@ -296,19 +280,19 @@ mutual
   factor_short k d (bare b) = base_short k d b
   factor_short k d (power b negative n) = both k (base_events k d b) _ (base_short k d b) (
     far k (k + length (factor_lexemes (power b negative n))) (factor_letters (power b negative n))
-        (omega (arith, word_some (single (bare b)), length-append (base_lexemes b) (lexeme.Mark mark.Caret ∷ (minus_lexemes negative ++ lexeme.Number n ∷ [])))),
+        (omega (arith, word_length (single (bare b)), length-append (base_lexemes b) (lexeme.Mark mark.Caret ∷ (minus_lexemes negative ++ lexeme.Number n ∷ [])))),
     tt,
   )
 
   word_short : (k d : ℕ) (w : Word) → AllByRecursion (IsShort k) (word_events k d w)
   word_short k d (single g) = both k (factor_events k d g) _ (factor_short k d g)
-      ((omega (arith, word_some (single g)), λ same. factor_one g (omega (arith, same))), tt)
+      ((omega (arith, word_length (single g)), λ same. factor_one g (omega (arith, same))), tt)
   word_short k d (times w star g) = both k (word_events k d w) _ (word_short k d w)
       (both k (factor_events (k + length (word_lexemes w ++ star_lexemes star)) d g) _
       (weaken_all (k + length (word_lexemes w ++ star_lexemes star)) k (factor_events (k + length (word_lexemes w ++ star_lexemes star)) d g)
-      (omega (arith, word_some w, length-append (word_lexemes w) (star_lexemes star))) (factor_short (k + length (word_lexemes w ++ star_lexemes star)) d g)) (
+      (omega (arith, word_length w, length-append (word_lexemes w) (star_lexemes star))) (factor_short (k + length (word_lexemes w ++ star_lexemes star)) d g)) (
         far k (k + length (word_lexemes (times w star g))) (word_letters (times w star g))
-            (omega (arith, word_some w, word_some (single g), length-append (word_lexemes w) (star_lexemes star ++ factor_lexemes g), length-append (star_lexemes star) (factor_lexemes g))),
+            (omega (arith, word_length w, word_length (single g), length-append (word_lexemes w) (star_lexemes star ++ factor_lexemes g), length-append (star_lexemes star) (factor_lexemes g))),
         tt,
       ))
 
@@ -336,7 +320,7 @@ module _ (s : Start) (kind : Option Counted) (left : Option Word) (f : Word → 
       let h = stand.only (statement_pieces t) (take k ahead ++ rest) (t, refl) e (alike k ahead rest some any) in
       let w = word_inv kind left f h.0 h.2 in
       let behind : pieces_lexemes h.0 ≡ take k ahead ++ rest =
-      append_cancel_left (pieces_lexemes done) (pieces_lexemes h.0) (take k ahead ++ rest) (sym (pieces_joined done h.0) ∙ ap pieces_lexemes (sym h.1) ∙ e) in
+      append_cancel_left (pieces_lexemes done) (pieces_lexemes h.0) (take k ahead ++ rest) (sym (pieces_append done h.0) ∙ ap pieces_lexemes (sym h.1) ∙ e) in
       record {
         word = w.word;
         others = w.others;
@@ -376,7 +360,7 @@ module _ (s : Start) (kind : Option Counted) (left : Option Word) (f : Word → 
         back = ps.0;
         written = t.1;
         rest = rest ++ pieces_lexemes ps.0;
-        shared = ap pieces_lexemes t.1 ∙ pieces_joined done (term kind left w ∷ ps.0) ∙ ap (λ xs. pieces_lexemes done ++ xs) behind ∙
+        shared = ap pieces_lexemes t.1 ∙ pieces_append done (term kind left w ∷ ps.0) ∙ ap (λ xs. pieces_lexemes done ++ xs) behind ∙
             sym (append_assoc (pieces_lexemes done) (take k ahead) (rest ++ pieces_lexemes ps.0)) ∙ ap (λ xs. xs ++ (rest ++ pieces_lexemes ps.0)) (sym (front_of p k e));
       }
 
@@ -423,7 +407,7 @@ module _ (s : Start) (kind : Option Counted) (left : Option Word) (f : Word → 
       too_late qs k rest share short p e front mid g late =
           let h = word_of qs k rest share short in
           let count = length-take-le k ahead (omega (arith, short, ahead_within)) in
-          let size = ap length (ap pieces_lexemes g ∙ pieces_joined done (term kind left share.word ∷ mid)) in
+          let size = ap length (ap pieces_lexemes g ∙ pieces_append done (term kind left share.word ∷ mid)) in
           let parts = length-append (pieces_lexemes done) (word_lexemes share.word ++ pieces_lexemes mid) in
           let inner = length-append (word_lexemes share.word) (pieces_lexemes mid) in
           omega (arith, e, late, count, size, parts, inner, ap length h.1, length-append (take k ahead) h.0)
@@ -434,12 +418,12 @@ module _ (s : Start) (kind : Option Counted) (left : Option Word) (f : Word → 
           let k : ℕ = (p + 1) - length (pieces_lexemes done) in
           let e : p + 1 ≡ length (pieces_lexemes done) + k = omega (arith, early) in
           let small : k ≤ length (word_lexemes w) = omega (arith, early, short) in
-          let share = shared_of shown.statement (p + 1) k shown.rest e (omega (arith, early)) (omega (arith, ahead_within, word_some w)) shown.shared in
+          let share = shared_of shown.statement (p + 1) k shown.rest e (omega (arith, early)) (omega (arith, ahead_within, word_length w)) shown.shared in
           ⊎_elim (λ h. absurd (stand.quiet shown.front h.0 shown.piece p c h.1 shown.shows))
           (λ other. ⊎_elim (λ next. by_term (statement_pieces shown.statement) k shown.rest share small p c e
           (term_shows s.counts s.lexemes done kind left share.word p c (subst (λ q. Shows s.counts s.lexemes done q p c) next.1 (subst (λ ps. Shows s.counts s.lexemes ps shown.piece p c) next.0 shown.shows))))
           (λ later. absurd (too_late (statement_pieces shown.statement) k shown.rest share small p e shown.front later.0 later.1
-          (shows_late s.counts s.lexemes shown.front shown.piece p c shown.shows))) other)
+          (shows_from s.counts s.lexemes shown.front shown.piece p c shown.shows))) other)
           (placed_in (statement_pieces shown.statement) done (term kind left share.word) share.others shown.front shown.piece shown.back share.written shown.written)
 
       term_quiet : left_letters left + word_letters w ≤ WORD_LIMIT → s.counts.letters + (letters_in done + word_letters w) ≤ LETTER_LIMIT →
@@ -450,17 +434,17 @@ module _ (s : Start) (kind : Option Counted) (left : Option Word) (f : Word → 
       term_quiet relation letters p c (many f whole too_many) = absurd (omega (arith, letters, too_many))
 
       one_more : pieces_lexemes (done ++ term kind left w ∷ []) ≡ pieces_lexemes done ++ word_lexemes w
-      one_more = pieces_joined done (term kind left w ∷ []) ∙ ap (λ xs. pieces_lexemes done ++ xs) (append-nil (word_lexemes w))
+      one_more = pieces_append done (term kind left w ∷ []) ∙ ap (λ xs. pieces_lexemes done ++ xs) (append-nil (word_lexemes w))
 
       passed_only : (qs : List Piece) (zs : List Lexeme) → IsWriting qs → pieces_lexemes qs ≡ pieces_lexemes (done ++ term kind left w ∷ []) ++ zs → BeginAlike after zs →
           (ps : List Piece) × (qs ≡ (done ++ term kind left w ∷ []) ++ ps) × Reads (f w) ps
       passed_only qs zs writing e next =
           let longer : pieces_lexemes qs ≡ pieces_lexemes done ++ (word_lexemes w ++ zs) = e ∙ ap (λ xs. xs ++ zs) one_more ∙ append_assoc (pieces_lexemes done) (word_lexemes w) zs in
-          let begins = subst (λ xs. BeginAlike xs (word_lexemes w ++ zs)) (sym taken.split) (alike_front (word_lexemes w) after zs (word_some w)) in
+          let begins = subst (λ xs. BeginAlike xs (word_lexemes w ++ zs)) (sym taken.split) (alike_front (word_lexemes w) after zs (word_length w)) in
           let h = stand.only qs (word_lexemes w ++ zs) writing longer begins in
           let v = word_inv kind left f h.0 h.2 in
           let behind : pieces_lexemes h.0 ≡ word_lexemes w ++ zs =
-          append_cancel_left (pieces_lexemes done) (pieces_lexemes h.0) (word_lexemes w ++ zs) (sym (pieces_joined done h.0) ∙ ap pieces_lexemes (sym h.1) ∙ longer) in
+          append_cancel_left (pieces_lexemes done) (pieces_lexemes h.0) (word_lexemes w ++ zs) (sym (pieces_append done h.0) ∙ ap pieces_lexemes (sym h.1) ∙ longer) in
           let same = one_end v.word w (pieces_lexemes v.others) zs (ap pieces_lexemes (sym v.split) ∙ behind)
           (ends_word v.word (f v.word) v.others v.reads (stand.tells v.word).1) (ends_alike w after zs next taken.ended) in (
             v.others,
@@ -641,7 +625,7 @@ module _ (s : Start) (kind : Option Counted) (left : Option Word) (f : Word → 
     refused_later : (p k : ℕ) (qs : List Piece) (rest : List Lexeme) (share : IsShared kind left done ahead qs k rest) → k ≤ q + 1 → k ≤ length ahead → p + 1 ≡ length (pieces_lexemes done) + k →
         (front mid : List Piece) → front ≡ done ++ term kind left share.word ∷ mid → length (pieces_lexemes front) ≤ p → ⊥
     refused_later p k qs rest share small within e front mid g late =
-        let size = ap length (ap pieces_lexemes g ∙ pieces_joined done (term kind left share.word ∷ mid)) in
+        let size = ap length (ap pieces_lexemes g ∙ pieces_append done (term kind left share.word ∷ mid)) in
         let parts = length-append (pieces_lexemes done) (word_lexemes share.word ++ pieces_lexemes mid) in
         let inner = length-append (word_lexemes share.word) (pieces_lexemes mid) in
         let count = length-take-le k ahead within in
@@ -660,7 +644,7 @@ module _ (s : Start) (kind : Option Counted) (left : Option Word) (f : Word → 
         (λ other. ⊎_elim (λ next. refused_term p k d (statement_pieces shown.statement) shown.rest share
         (term_shows s.counts s.lexemes done kind left share.word p d (subst (λ r. Shows s.counts s.lexemes done r p d) next.1 (subst (λ ps. Shows s.counts s.lexemes ps shown.piece p d) next.0 shown.shows))))
         (λ later. absurd (refused_later p k (statement_pieces shown.statement) shown.rest share (omega (arith, early, short)) (omega (arith, early, outer, all_of)) e shown.front later.0 later.1
-        (shows_late s.counts s.lexemes shown.front shown.piece p d shown.shows))) other)
+        (shows_from s.counts s.lexemes shown.front shown.piece p d shown.shows))) other)
         (placed_in (statement_pieces shown.statement) done (term kind left share.word) share.others shown.front shown.piece shown.back share.written shown.written)
 
     pub word_refused : IsFirstCause s.counts s.lexemes (length (pieces_lexemes done) + q) c
@@ -695,7 +679,7 @@ module _ (s : Start) (kind : Option Counted) (left : Option Word) (f : Word → 
         (λ short.
         let same : p ≡ length (pieces_lexemes done) = omega (arith, early, short) in
         let share = shared_of shown.statement (p + 1) 1 shown.rest (omega (arith, same)) (omega arith) (omega (arith, ap length next)) shown.shared in
-        let late = shows_late s.counts s.lexemes shown.front shown.piece p d shown.shows in
+        let late = shows_from s.counts s.lexemes shown.front shown.piece p d shown.shows in
         ⊎_elim (λ h. absurd (stand.quiet shown.front h.0 shown.piece p d h.1 shown.shows))
         (λ other. ⊎_elim (λ at.
         let g = full_term p 1 d share.word same
@@ -705,8 +689,8 @@ module _ (s : Start) (kind : Option Counted) (left : Option Word) (f : Word → 
           arith,
           same,
           late,
-          word_some share.word,
-          ap length (ap pieces_lexemes later.1 ∙ pieces_joined done (term kind left share.word ∷ later.0)),
+          word_length share.word,
+          ap length (ap pieces_lexemes later.1 ∙ pieces_append done (term kind left share.word ∷ later.0)),
           length-append (pieces_lexemes done) (word_lexemes share.word ++ pieces_lexemes later.0),
           length-append (word_lexemes share.word) (pieces_lexemes later.0),
         ))) other)

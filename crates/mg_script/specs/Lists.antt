@@ -4,7 +4,7 @@ use Rattle.mg_terms.specs.declared.lexeme.Lexeme.{Lexeme}
 use Rattle.mg_script.specs.declared.lists.Member.{Member}
 use Rattle.mg_script.specs.declared.lists.Member.TheVariants as member
 use Rattle.mg_script.specs.declared.reader.Reader.{Reader}
-use Rattle.mg_script.specs.Grammar.{Item, listed_name, listed_word, listed_relation, listed_arrow, Rest, Begins, item_then}
+use Rattle.mg_script.specs.Grammar.{Item, listed_name, listed_word, listed_relation, listed_arrow, Rest, Begins}
 
 abbrev pub item_of : Member → Item
 item_of member.Name = listed_name

@@ -18,7 +18,7 @@ mod sign;
 
 pub use counted::{Counted, Counts, LETTER_LIMIT};
 pub use fault::StatementFault;
-pub use form::{Printed, Property};
+pub use form::{Printed, Property, procedure_of, property_of};
 pub use laws::{a_script_or_a_refusal, one_cut, one_place, one_statement};
 pub use lines::Lines;
 pub use parsing::{ParseRefused, parse};

@@ -1,17 +1,15 @@
 //! What may stand at a place of a statement.
 
-ghost use Rattle.std.specs.Prelude.{◌≡◌, ◌↔◌, Option as OptionOf, None, Some, IsTrue, IfSome, IfNone};
+ghost use Rattle.std.specs.Prelude.{◌≡◌, ◌↔◌, Option as OptionOf, None, Some, IsTrue};
 ghost use Rattle.mg_terms.specs.Word.{Word};
 ghost use Rattle.mg_script.specs.Grammar.{a_number, a_procedure, a_property, IsIn};
-ghost use Rattle.mg_script.specs.Statement.{property_keyword, procedure_keyword};
 ghost use Rattle.mg_script.specs.Reader.{class_of, kind_of, IsLeft};
 ghost use Rattle.mg_script.specs.Count.{left_letters};
 
 use crate::counted::Counted;
-use crate::form::Property;
+use crate::form::{procedure_of, property_of};
 use mg_lex::{Keyword, Mark};
 use mg_terms::Lexeme;
-use mg_words::Procedure;
 
 /// Which lexemes may stand at a place.
 #[derive(Clone, Copy)]
@@ -100,38 +98,6 @@ pub(crate) fn counted_name(counted: Counted) -> Sign
     Sign {
         counted: Some(counted),
         expected: Expected::This(Lexeme::Name),
-    }
-}
-
-/// The procedure that a keyword names.
-pub fn procedure_of(keyword: Keyword) -> Option<Procedure>
-    ensures some { IfSome result (λ p. procedure_keyword p ≡ keyword) }
-    ensures none { IfNone result ((p : Procedure) → procedure_keyword p ≡ keyword → ⊥) }
-{
-    match keyword {
-        Keyword::Derive => Some(Procedure::Derive),
-        Keyword::Act => Some(Procedure::Act),
-        Keyword::Residue => Some(Procedure::Residue),
-        Keyword::Rewrite => Some(Procedure::Rewrite),
-        Keyword::Cosets => Some(Procedure::Cosets),
-        Keyword::Nielsen => Some(Procedure::Nielsen),
-        Keyword::Recall => Some(Procedure::Recall),
-        _ => None,
-    }
-}
-
-/// The property that a keyword names.
-pub fn property_of(keyword: Keyword) -> Option<Property>
-    ensures some { IfSome result (λ p. property_keyword p ≡ keyword) }
-    ensures none { IfNone result ((p : Property) → property_keyword p ≡ keyword → ⊥) }
-{
-    match keyword {
-        Keyword::Trivial => Some(Property::Trivial),
-        Keyword::Abelian => Some(Property::Abelian),
-        Keyword::Normal => Some(Property::Normal),
-        Keyword::Extends => Some(Property::Extends),
-        Keyword::Onto => Some(Property::Onto),
-        _ => None,
     }
 }
 

@@ -169,6 +169,152 @@ fn words_are_counted(rt: HostRuntime) {
     assert!(rt; read_statement(&word, full) == Err(fault));
 }
 
+const GROUP: Lexeme = Lexeme::Keyword(Keyword::Group);
+
+const LESS: Lexeme = Lexeme::Mark(Mark::Less);
+
+const GREATER: Lexeme = Lexeme::Mark(Mark::Greater);
+
+const COMMA: Lexeme = Lexeme::Mark(Mark::Comma);
+
+const BAR: Lexeme = Lexeme::Mark(Mark::Bar);
+
+#[test]
+fn groups_are_read(rt: HostRuntime) {
+    assert!(rt; is_read(&[GROUP, NAME, EQUALS, LESS, GREATER]));
+    assert!(rt; is_read(&[GROUP, NAME, EQUALS, LESS, BAR, GREATER]));
+    assert!(rt;
+        is_read(&[
+            GROUP, NAME, EQUALS, LESS, NAME, COMMA, NAME, BAR, NAME, GREATER
+        ])
+    );
+}
+
+#[test]
+fn groups_must_end(rt: HostRuntime) {
+    assert!(rt; is_refused(&[GROUP, NAME, EQUALS, LESS], 4, Cause::Unexpected));
+    assert!(rt;
+        is_refused(
+            &[GROUP, NAME, EQUALS, LESS, NAME, COMMA, GREATER],
+            6,
+            Cause::Unexpected
+        )
+    );
+    assert!(rt;
+        is_refused(
+            &[GROUP, NAME, EQUALS, LESS, NAME, BAR, NAME, EQUALS, GREATER],
+            8,
+            Cause::Unexpected
+        )
+    );
+}
+
+/// `group G = < a, b | a = b a, b >`
+const TWO_RELATORS: [Lexeme; 15] = [
+    GROUP, NAME, EQUALS, LESS, NAME, COMMA, NAME, BAR, NAME, EQUALS, NAME, NAME, COMMA, NAME,
+    GREATER,
+];
+
+#[test]
+fn groups_are_counted(rt: HostRuntime) {
+    let after = Counts {
+        groups: 1,
+        generators: 2,
+        relators: 2,
+        letters: 4,
+        ..NOTHING
+    };
+    assert!(rt; read_statement(&TWO_RELATORS, NOTHING) == Ok(after));
+    let full = Counts {
+        relators: 255,
+        ..NOTHING
+    };
+    let fault = StatementFault {
+        place: 13,
+        cause: Cause::TooMany,
+    };
+    assert!(rt; read_statement(&TWO_RELATORS, full) == Err(fault));
+}
+
+#[test]
+fn generators_have_a_limit(rt: HostRuntime) {
+    let mut lexemes = [COMMA; 134];
+    lexemes[0] = GROUP;
+    lexemes[1] = NAME;
+    lexemes[2] = EQUALS;
+    lexemes[3] = LESS;
+    for count in 0..65 {
+        lexemes[4 + 2 * count] = NAME;
+    }
+    lexemes[133] = GREATER;
+    assert!(rt; is_refused(&lexemes, 132, Cause::TooMany));
+}
+
+/// `group G = < a | a^10000 = a >`
+const LONG_EQUATION: [Lexeme; 12] = [
+    GROUP,
+    NAME,
+    EQUALS,
+    LESS,
+    NAME,
+    BAR,
+    NAME,
+    Lexeme::Mark(Mark::Caret),
+    Lexeme::Number(10_000),
+    EQUALS,
+    NAME,
+    GREATER,
+];
+
+#[test]
+fn equations_have_a_limit(rt: HostRuntime) {
+    assert!(rt; is_refused(&LONG_EQUATION, 10, Cause::WordTooLong));
+}
+
+#[test]
+fn subgroups_are_read(rt: HostRuntime) {
+    let subgroup = keyword(Keyword::Subgroup);
+    let of = keyword(Keyword::Of);
+    assert!(rt; is_read(&[subgroup, NAME, of, NAME, EQUALS, LESS, GREATER]));
+    assert!(rt;
+        is_read(&[
+            subgroup,
+            NAME,
+            of,
+            NAME,
+            EQUALS,
+            LESS,
+            NAME,
+            NAME,
+            COMMA,
+            Lexeme::Number(1),
+            GREATER
+        ])
+    );
+}
+
+#[test]
+fn maps_are_read(rt: HostRuntime) {
+    let map = keyword(Keyword::Map);
+    let arrow = Lexeme::Mark(Mark::Arrow);
+    let open = Lexeme::Mark(Mark::OpenSquare);
+    let close = Lexeme::Mark(Mark::CloseSquare);
+    assert!(rt;
+        is_read(&[
+            map, NAME, COLON, NAME, arrow, NAME, EQUALS, open, NAME, arrow, NAME, close
+        ])
+    );
+    assert!(rt;
+        is_refused(
+            &[
+                map, NAME, COLON, NAME, arrow, NAME, EQUALS, open, NAME, arrow, close
+            ],
+            10,
+            Cause::Unexpected
+        )
+    );
+}
+
 /// The bytes, and then so many times the piece.
 fn repeated(alloc: Global, bytes: &[u8], piece: &[u8], count: usize) -> Result<Text, NoMemory> {
     let mut text = Text::new(alloc);
@@ -211,18 +357,18 @@ fn refused_at(alloc: Global, bytes: &[u8], line: u32, column: u32, cause: Cause)
     }
 }
 
-const GROUP: &[u8] = b"group G = < a | >\n";
+const GROUP_LINE: &[u8] = b"group G = < a | >\n";
 
 /// Whether the line is read behind that of a group.
 fn follows(alloc: Global, line: &[u8]) -> bool {
-    match repeated(alloc, GROUP, line, 1) {
+    match repeated(alloc, GROUP_LINE, line, 1) {
         Ok(script) => is_script(alloc, script.as_slice(), 2),
         Err(_) => false,
     }
 }
 
 fn follows_not(alloc: Global, line: &[u8], column: u32, cause: Cause) -> bool {
-    match repeated(alloc, GROUP, line, 1) {
+    match repeated(alloc, GROUP_LINE, line, 1) {
         Ok(script) => refused_at(alloc, script.as_slice(), 2, column, cause),
         Err(_) => false,
     }
@@ -284,11 +430,11 @@ fn brackets_are_counted(rt: HostRuntime) -> Result<(), Fail> {
 }
 
 #[test]
-fn groups_are_counted(rt: HostRuntime) -> Result<(), Fail> {
+fn groups_have_a_limit(rt: HostRuntime) -> Result<(), Fail> {
     let alloc = rt.alloc();
-    let most = repeated(alloc, b"", GROUP, 64)?;
+    let most = repeated(alloc, b"", GROUP_LINE, 64)?;
     assert!(rt; is_script(alloc, most.as_slice(), 64));
-    let more = repeated(alloc, b"", GROUP, 65)?;
+    let more = repeated(alloc, b"", GROUP_LINE, 65)?;
     assert!(rt; refused_at(alloc, more.as_slice(), 65, 7, Cause::TooMany));
     Ok(())
 }

@@ -1,5 +1,4 @@
-use Rattle.mg_script.specs.Grammar.{end, group_rest, from_word, word_rest, from_subgroup, subgroup_rest, from_map, map_rest, from_ask, ask_rest, from_fund, statement_rest}
-use Rattle.mg_script.specs.Reader.{Start, Knows}
+use Rattle.mg_script.specs.Grammar.{group_rest, from_word, word_rest, from_subgroup, subgroup_rest, from_map, map_rest, from_ask, ask_rest, from_fund}
 use Rattle.mg_script.proofs.Steps.{went_first, went_second}
 use Rattle.mg_script.proofs.reader.Reader.statement.Goals as goal
 
