@@ -1,5 +1,5 @@
 -- Which cause stands first in a line.
-use Rattle.std.proofs.Common.{◌≡◌, ◌≢◌, ℕ, ◌<◌, ◌≤◌, List, [], length, refl, sym, ◌∙◌, subst, arith, ◌⊎◌, inl, inr, ⊎_elim}
+use Rattle.std.proofs.Common.{◌≡◌, ◌≢◌, ℕ, ◌<◌, ◌≤◌, List, [], length, refl, sym, ◌∙◌, subst, arith, inl, inr, ⊎_elim}
 use Rattle.std.specs.List.{AllZip}
 use Rattle.std.proofs.lemmas.Option.{slice_get_within}
 use Rattle.mg_lex.specs.declared.refusal.Cause.{Cause}
@@ -13,14 +13,12 @@ use Rattle.mg_terms.specs.declared.lexeme.Lexeme.{Lexeme}
 use Rattle.mg_terms.specs.Lexeme.{IsLexemeOf}
 use Rattle.mg_script.specs.declared.counted.Counts.{Counts}
 use Rattle.mg_script.specs.Cause as grammar
+use Rattle.mg_script.specs.LineRead.{IsNoLater}
 use Rattle.mg_script.specs.Script.{ReadsAs, AreRead, all, StartsAt, StandsInLine, of_bytes, of_grammar, of_end, LineIsFaultless, IsFirstInLine}
 use Rattle.mg_script.proofs.LineLexemes.{one_list, as_many, all_within_limits}
 use Rattle.mg_script.proofs.LineTokens.{one_read, order_read, begins_before, begins_within}
 
--- the first of two causes is no later, and at one place its number is no greater
-abbrev pub IsNoLater : ℕ → Cause → ℕ → Cause → Type 0
-IsNoLater place c q d = (place < q) ⊎ ((place ≡ q) × (cause_number c ≤ cause_number d))
-
+-- one cause after the other
 pub no_later_through : (p q r : ℕ) (c d e : Cause) → IsNoLater p c q d → IsNoLater q d r e → IsNoLater p c r e
 no_later_through p q r c d e first second =
     ⊎_elim

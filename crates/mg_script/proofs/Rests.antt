@@ -11,7 +11,7 @@ use Rattle.mg_script.specs.declared.counted.Counted.{Counted}
 use Rattle.mg_script.specs.declared.counted.Counted.TheVariants as counted
 use Rattle.mg_script.specs.declared.form.Property.TheVariants as property
 use Rattle.mg_script.specs.Statement.{Relation, relator, equation, Piece, sign, term, pieces_lexemes, counted_name, a_word, the_mark, listed_on, listed, relation_pieces, member_pieces, arrow_pieces, name_alone}
-use Rattle.mg_script.proofs.Grammar.{Item, listed_name, listed_word, listed_relation, listed_arrow, Class, this, a_number, a_procedure, a_property, IsIn, relation_then, Rest, end, sign_then, word_then, either, more, mark_then, item_then, comma_then, list_then, Reads, reads_end, reads_sign, reads_word, reads_first, reads_second, reads_more, reads_last}
+use Rattle.mg_script.specs.Grammar.{Begins, CanEnd, Item, listed_name, listed_word, listed_relation, listed_arrow, Class, this, a_number, a_procedure, a_property, IsIn, relation_then, Rest, end, sign_then, word_then, either, more, mark_then, item_then, comma_then, list_then, Reads, reads_end, reads_sign, reads_word, reads_first, reads_second, reads_more, reads_last}
 
 -- a lexeme of a class
 pub one_of : (c : Class) → (x : Lexeme) × IsIn c x
@@ -27,21 +27,6 @@ sample (sign_then kind c r) = let x = one_of c in let s = sample r in (sign kind
 sample (word_then kind left f) = let s = sample (f name_alone) in (term kind left name_alone ∷ s.0, reads_word kind left f name_alone s.0 s.1)
 sample (either a b) = let s = sample a in (s.0, reads_first a b s.0 s.1)
 sample (more i r) = let s = sample r in (s.0, reads_last i r s.0 s.1)
-
--- with which lexemes a rest begins, and whether it may be nothing
-abbrev pub Begins : Rest → Lexeme → Type 0
-Begins end x = ⊥
-Begins (sign_then kind c r) x = IsIn c x
-Begins (word_then kind left f) x = BeginsBase x
-Begins (either a b) x = Begins a x ⊎ Begins b x
-Begins (more i r) x = (x ≡ lexeme.Mark mark.Comma) ⊎ Begins r x
-
-abbrev pub CanEnd : Rest → Type 0
-CanEnd end = Unit {0}
-CanEnd (sign_then kind c r) = ⊥
-CanEnd (word_then kind left f) = ⊥
-CanEnd (either a b) = CanEnd a ⊎ CanEnd b
-CanEnd (more i r) = CanEnd r
 
 -- the first lexeme of a word
 abbrev pub HasFirst : List Lexeme → Type 0

@@ -10,7 +10,7 @@ use Rattle.mg_script.specs.declared.form.Property.TheVariants as property
 use Rattle.mg_script.specs.declared.form.Printed.{Printed}
 use Rattle.mg_script.specs.declared.form.Printed.TheVariants as printed
 use Rattle.mg_script.specs.Statement.{Relation, relator, equation, Question, equal, member, vanishes, central, has, Statement, group, word, subgroup, mapping, ask, fund, grant, run, cancel, report, Piece, term, the_mark, listed, generator_names, relation_pieces, bar_pieces, property_keyword, procedure_keyword, question_pieces, bound_pieces, printed_pieces, statement_pieces, statement_lexemes}
-use Rattle.mg_script.proofs.Grammar.{Item, listed_name, listed_word, listed_relation, listed_arrow}
+use Rattle.mg_script.specs.Grammar.{Item, listed_name, listed_word, listed_relation, listed_arrow}
 use Rattle.mg_script.proofs.Rests.{Value, item_pieces, more_pieces, list_pieces}
 use Rattle.mg_script.proofs.Written.{units, names_units}
 use Rattle.mg_script.proofs.Unique.{one_writing}

@@ -1,5 +1,5 @@
 -- Lexemes are written of one list of pieces.
-use Rattle.std.proofs.Common.{◌≡◌, ◌≢◌, ◌⊎◌, inl, inr, ⊎_elim, ℕ, ◌<◌, Some, List, [], ◌∷◌, refl, sym, ap, subst, ◌∙◌, arith}
+use Rattle.std.proofs.Common.{◌≡◌, ◌≢◌, ◌⊎◌, inl, inr, ⊎_elim, ℕ, ◌<◌, List, [], ◌∷◌, refl, sym, ap, subst, ◌∙◌, arith}
 use Rattle.mg_lex.specs.declared.keyword.Keyword.{Keyword}
 use Rattle.mg_lex.specs.declared.keyword.Keyword.TheVariants as keyword
 use Rattle.mg_lex.specs.declared.mark.Mark.{Mark}
@@ -9,12 +9,11 @@ use Rattle.mg_terms.specs.declared.lexeme.Lexeme.TheVariants as lexeme
 use Rattle.mg_terms.specs.Word.{name, one, round, commutator, bare, power, Word, single, times}
 use Rattle.mg_terms.specs.Beginning.{BeginsBase, GoesOn, EndsBefore}
 use Rattle.mg_terms.proofs.Beginnings.{follows, one_end}
-use Rattle.mg_script.specs.declared.counted.Counted.TheVariants as counted
 use Rattle.mg_script.specs.declared.form.Property.{Property}
 use Rattle.mg_script.specs.declared.form.Property.TheVariants as property
 use Rattle.mg_script.specs.Statement.{property_keyword, Statement, Piece, sign, term, pieces_lexemes, statement_pieces, statement_lexemes}
-use Rattle.mg_script.proofs.Grammar.{Item, listed_name, listed_word, listed_relation, listed_arrow, Rest, end, this, sign_then, word_then, either, more, mark_then, keyword_then, item_then, comma_then, Reads, reads_end, reads_sign, reads_word, reads_first, reads_second, reads_more, reads_last, close_group, relations_rest, bar_rest, group_rest, word_rest, subgroup_rest, map_rest, in_rest, words_rest, asked_rest, ask_rest, fund_rest, grant_rest, run_rest, cancel_rest, report_rest, statement_rest}
-use Rattle.mg_script.proofs.Rests.{Begins, CanEnd, reads_begins, reads_nothing, end_inv, sign_inv, word_inv, either_inv, more_cases}
+use Rattle.mg_script.specs.Grammar.{Begins, CanEnd, EndsList, Tells, Item, listed_name, listed_word, listed_relation, listed_arrow, Rest, end, either, more, mark_then, keyword_then, item_then, comma_then, Reads, reads_end, reads_sign, reads_word, reads_first, reads_second, reads_more, reads_last, close_group, relations_rest, bar_rest, group_rest, word_rest, subgroup_rest, map_rest, in_rest, words_rest, asked_rest, ask_rest, fund_rest, grant_rest, run_rest, cancel_rest, report_rest, from_report, from_cancel, from_run, from_grant, from_fund, from_ask, from_map, from_subgroup, from_word, statement_rest}
+use Rattle.mg_script.proofs.Rests.{reads_begins, reads_nothing, end_inv, sign_inv, word_inv, either_inv, more_cases}
 use Rattle.mg_script.proofs.Written.{written}
 
 -- lexemes that stand behind words, and with which no word goes on
@@ -25,10 +24,7 @@ mark_apart m star caret open_round square w goes =
 keyword_apart : (k : Keyword) (w : Word) → ¬ GoesOn w (lexeme.Keyword k)
 keyword_apart k w goes = ⊎_elim (λ e. absurd cc) (λ other. ⊎_elim (λ base. base) (λ power. let e = power.0 in absurd cc) other) (follows w (lexeme.Keyword k) goes)
 
--- a lexeme behind a list, and one behind a member of a list
-abbrev EndsList : Lexeme → Type 0
-EndsList x = (x ≡ lexeme.Mark mark.Greater) ⊎ ((x ≡ lexeme.Mark mark.Bar) ⊎ (x ≡ lexeme.Mark mark.CloseSquare))
-
+-- a lexeme behind a member of a list
 abbrev EndsItem : Lexeme → Type 0
 EndsItem x = (x ≡ lexeme.Mark mark.Comma) ⊎ EndsList x
 
@@ -46,14 +42,6 @@ item_apart x ends w =
 abbrev IsSplit : Rest → Rest → Type 0
 IsSplit a b = ((x : Lexeme) → Begins a x → Begins b x → ⊥) × (CanEnd a → CanEnd b → ⊥)
 
--- the next lexeme tells what comes, all the way
-abbrev Tells : Rest → Type 0
-Tells end = Unit {0}
-Tells (sign_then kind c r) = Tells r
-Tells (word_then kind left f) = (w : Word) → Tells (f w) × ((x : Lexeme) → Begins (f w) x → ¬ GoesOn w x)
-Tells (either a b) = Tells a × Tells b × ((x : Lexeme) → Begins a x → Begins b x → ⊥) × (CanEnd a → CanEnd b → ⊥)
-Tells (more i r) = Tells r × ((x : Lexeme) → Begins r x → EndsList x) × (¬ CanEnd r)
-
 relation_tells : (r : Rest) → Tells r → ((x : Lexeme) → Begins r x → EndsItem x) → (¬ CanEnd r) → Tells (item_then listed_relation r)
 relation_tells r tells ends some u = (
   ((λ v. (tells, λ x begins. item_apart x (ends x begins) v)), tells, (λ x e begins. apart x e (ends x begins)), λ none. absurd none),
@@ -63,17 +51,17 @@ relation_tells r tells ends some u = (
     apart : (x : Lexeme) → x ≡ lexeme.Mark mark.Equals → EndsItem x → ⊥
     apart x e ends' = ⊎_elim (λ f. absurd cc) (λ l. ⊎_elim (λ f. absurd cc) (λ m. ⊎_elim (λ f. absurd cc) (λ f. absurd cc) m) l) ends'
 
-item_tells : (i : Item) (r : Rest) → Tells r → ((x : Lexeme) → Begins r x → EndsItem x) → (¬ CanEnd r) → Tells (item_then i r)
+pub item_tells : (i : Item) (r : Rest) → Tells r → ((x : Lexeme) → Begins r x → EndsItem x) → (¬ CanEnd r) → Tells (item_then i r)
 item_tells listed_name r tells ends some = tells
 item_tells listed_word r tells ends some = λ w. (tells, λ x begins. item_apart x (ends x begins) w)
 item_tells listed_relation r tells ends some = relation_tells r tells ends some
 item_tells listed_arrow r tells ends some = λ w. (tells, λ x begins. item_apart x (ends x begins) w)
 
-comma_tells : (i : Item) (r : Rest) → Tells (more i r) → Tells (item_then i (more i r))
+pub comma_tells : (i : Item) (r : Rest) → Tells (more i r) → Tells (item_then i (more i r))
 comma_tells i r tells = item_tells i (more i r) tells (λ x begins. ⊎_elim (λ e. inl e) (λ last. inr (tells.1 x last)) begins) tells.2
 
 -- what stands behind a word ends it
-ends_word : (w : Word) (r : Rest) (ps : List Piece) → Reads r ps → ((x : Lexeme) → Begins r x → ¬ GoesOn w x) → EndsBefore w (pieces_lexemes ps)
+pub ends_word : (w : Word) (r : Rest) (ps : List Piece) → Reads r ps → ((x : Lexeme) → Begins r x → ¬ GoesOn w x) → EndsBefore w (pieces_lexemes ps)
 ends_word w r ps reads apart = by_first (pieces_lexemes ps) refl
   where
     by_first : (xs : List Lexeme) → pieces_lexemes ps ≡ xs → EndsBefore w xs
@@ -88,7 +76,7 @@ split_reads a b ps qs split first second e = by_first (pieces_lexemes ps) refl
     by_first [] f = split.1 (reads_nothing a ps first f) (reads_nothing b qs second (sym e ∙ f))
     by_first (x ∷ xs) f = split.0 x (reads_begins a ps first x xs f) (reads_begins b qs second x xs (sym e ∙ f))
 
-more_split : (i : Item) (r : Rest) → Tells (more i r) → IsSplit (comma_then i r) r
+pub more_split : (i : Item) (r : Rest) → Tells (more i r) → IsSplit (comma_then i r) r
 more_split i r tells = (λ x e begins. by_end x e (tells.1 x begins), λ none. absurd none)
   where
     by_end : (x : Lexeme) → x ≡ lexeme.Mark mark.Comma → EndsList x → ⊥
@@ -168,7 +156,7 @@ map_tells =
 in_rest_tells : Tells in_rest
 in_rest_tells = (tt, tt, (λ x e f. absurd cc), λ none. absurd none)
 
-words_tells : Tells words_rest
+pub words_tells : Tells words_rest
 words_tells = (
   (λ v. (tt, λ x e. subst (λ y. ¬ GoesOn v y) (sym e) (keyword_apart keyword.In v))),
   (in_rest_tells, tt, (λ x e f. absurd cc), λ none. absurd none),
@@ -200,7 +188,7 @@ asked_tells (single (bare (commutator u v))) = (words_tells, λ x begins. words_
 asked_tells (single (power b negative n)) = (words_tells, λ x begins. words_begin x begins (single (power b negative n)))
 asked_tells (times w star f) = (words_tells, λ x begins. words_begin x begins (times w star f))
 
-run_tells : Tells run_rest
+pub run_tells : Tells run_rest
 run_tells = (tt, tt, (λ x e none. none), λ none. absurd none)
 
 report_tells : Tells report_rest
@@ -237,33 +225,6 @@ keyword_tells : (k : Keyword) (r b : Rest) → Tells r → Tells b → IsPast k 
 keyword_tells k r b first second behind =
     (first, second, (λ x e begins. let more' = behind x begins in omega (arith, more', ap lexeme_order e)), λ none. absurd none)
 
-abbrev from_report : Rest
-from_report = sign_then (Some counted.Reports) (this (lexeme.Keyword keyword.Report)) report_rest
-
-abbrev from_cancel : Rest
-from_cancel = either (keyword_then keyword.Cancel cancel_rest) from_report
-
-abbrev from_run : Rest
-from_run = either (keyword_then keyword.Run run_rest) from_cancel
-
-abbrev from_grant : Rest
-from_grant = either (keyword_then keyword.Grant grant_rest) from_run
-
-abbrev from_fund : Rest
-from_fund = either (keyword_then keyword.Fund fund_rest) from_grant
-
-abbrev from_ask : Rest
-from_ask = either (keyword_then keyword.Ask ask_rest) from_fund
-
-abbrev from_map : Rest
-from_map = either (keyword_then keyword.Map map_rest) from_ask
-
-abbrev from_subgroup : Rest
-from_subgroup = either (keyword_then keyword.Subgroup subgroup_rest) from_map
-
-abbrev from_word : Rest
-from_word = either (keyword_then keyword.Word word_rest) from_subgroup
-
 past_cancel : IsPast keyword.Cancel from_report
 past_cancel x e = omega (arith, ap lexeme_order e)
 
@@ -291,7 +252,7 @@ past_word = past keyword.Word keyword.Subgroup subgroup_rest from_map (omega ari
 past_group : IsPast keyword.Group from_word
 past_group = past keyword.Group keyword.Word word_rest from_subgroup (omega arith) past_word
 
-statement_tells : Tells statement_rest
+pub statement_tells : Tells statement_rest
 statement_tells =
     keyword_tells keyword.Group group_rest from_word group_tells
     (keyword_tells keyword.Word word_rest from_subgroup word_tells

@@ -12,7 +12,7 @@ use Rattle.mg_script.specs.declared.counted.Counted.TheVariants as counted
 use Rattle.mg_script.specs.declared.form.Printed.{Printed}
 use Rattle.mg_script.specs.declared.form.Printed.TheVariants as printed
 use Rattle.mg_script.specs.Statement.{Relation, Question, equal, member, vanishes, central, has, Statement, group, word, subgroup, mapping, ask, fund, grant, run, cancel, report, Piece, sign, a_name, counted_name, a_word, the_mark, the_keyword, the_number, listed, generator_names, bar_pieces, property_keyword, procedure_keyword, name_alone, question_pieces, bound_pieces, printed_pieces, statement_pieces}
-use Rattle.mg_script.proofs.Grammar.{listed_name, listed_word, listed_relation, listed_arrow, this, a_number, a_procedure, a_property, Rest, end, sign_then, word_then, either, name_then, counted_name_then, mark_then, keyword_then, list_then, Reads, reads_end, reads_sign, reads_word, reads_first, reads_second, close_group, relations_rest, bar_rest, group_rest, word_rest, subgroup_rest, map_rest, in_group, in_rest, words_rest, asked_rest, ask_rest, fund_rest, grant_rest, run_rest, cancel_rest, report_rest, statement_rest}
+use Rattle.mg_script.specs.Grammar.{listed_name, listed_word, listed_relation, listed_arrow, this, a_number, a_procedure, a_property, Rest, end, sign_then, word_then, either, name_then, counted_name_then, mark_then, keyword_then, list_then, Reads, reads_end, reads_sign, reads_word, reads_first, reads_second, close_group, relations_rest, bar_rest, group_rest, word_rest, subgroup_rest, map_rest, in_group, in_rest, words_rest, asked_rest, ask_rest, fund_rest, grant_rest, run_rest, cancel_rest, report_rest, statement_rest}
 use Rattle.mg_script.proofs.Rests.{end_inv, sign_inv, this_inv, word_inv, either_inv, reads_this, list_reads, list_inv, item_pieces}
 
 -- a statement behind its keyword

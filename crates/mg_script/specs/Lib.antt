@@ -3,4 +3,9 @@ pub mod Cut
 pub mod Statement
 pub mod Count
 pub mod Cause
+pub mod Grammar
+pub mod Reader
+pub mod Lists
 pub mod Script
+pub mod LineRead
+pub mod Parsed

@@ -1,7 +1,10 @@
 //! What a script may hold only so many of.
 
-ghost use Rattle.std.specs.Prelude.{◌≡◌};
-ghost use Rattle.mg_script.specs.Count.{limit_of};
+ghost use Rattle.std.specs.Prelude.{◌≡◌, ◌↔◌, ◌+◌, ◌^◌, ◌<◌, [], set, None, Some, IsTrue};
+ghost use Rattle.mg_script.specs.Count.{limit_of, count_of, counted_number};
+ghost use Rattle.mg_script.specs.Cause.{IsOneTooMany};
+ghost use Rattle.mg_script.specs.Reader.{AddsOne, numbers};
+ghost use Rattle.mg_script.specs.Script.{no_counts, counted_anew};
 
 /// What is counted in a script. The numbers of generators, relators and subgroup words are those of one
 /// statement, the others those of the whole script.
@@ -55,4 +58,133 @@ pub struct Counts {
     pub members: u32,
     pub reports: u32,
     pub letters: u32,
+}
+
+impl Counts {
+    /// Those before a script.
+    pub(crate) fn none() -> Counts
+        ensures { result ≡ no_counts }
+    {
+        Counts {
+            groups: 0,
+            words: 0,
+            subgroups: 0,
+            maps: 0,
+            questions: 0,
+            generators: 0,
+            relators: 0,
+            members: 0,
+            reports: 0,
+            letters: 0,
+        }
+    }
+
+    /// Those before the next statement: generators, relators and words of subgroups are counted anew.
+    pub(crate) fn anew(self) -> Counts
+        ensures { result ≡ counted_anew self }
+    {
+        Counts {
+            generators: 0,
+            relators: 0,
+            members: 0,
+            ..self
+        }
+    }
+
+    /// How many there are of these.
+    pub fn of(self, counted: Counted) -> u32
+        ensures { result ≡ count_of self counted }
+    {
+        match counted {
+            Counted::Groups => self.groups,
+            Counted::Words => self.words,
+            Counted::Subgroups => self.subgroups,
+            Counted::Maps => self.maps,
+            Counted::Questions => self.questions,
+            Counted::Generators => self.generators,
+            Counted::Relators => self.relators,
+            Counted::Members => self.members,
+            Counted::Reports => self.reports,
+        }
+    }
+
+    /// Whether one more that is counted so is one too many.
+    pub(crate) fn is_full(self, counted: Option<Counted>) -> bool
+        ensures { IsTrue result ↔ IsOneTooMany self [] counted }
+    {
+        match counted {
+            Some(counted) => self.of(counted) >= counted.limit(),
+            None => false,
+        }
+    }
+
+    /// The counts with one more of these.
+    fn one_more(self, counted: Counted) -> Counts
+        requires { count_of self counted < limit_of counted }
+        ensures numbers { numbers result ≡ set (numbers self) (counted_number counted) (count_of self counted + 1) }
+        ensures letters { result.letters ≡ self.letters }
+    {
+        match counted {
+            Counted::Groups => Counts {
+                groups: self.groups + 1,
+                ..self
+            },
+            Counted::Words => Counts {
+                words: self.words + 1,
+                ..self
+            },
+            Counted::Subgroups => Counts {
+                subgroups: self.subgroups + 1,
+                ..self
+            },
+            Counted::Maps => Counts {
+                maps: self.maps + 1,
+                ..self
+            },
+            Counted::Questions => Counts {
+                questions: self.questions + 1,
+                ..self
+            },
+            Counted::Generators => Counts {
+                generators: self.generators + 1,
+                ..self
+            },
+            Counted::Relators => Counts {
+                relators: self.relators + 1,
+                ..self
+            },
+            Counted::Members => Counts {
+                members: self.members + 1,
+                ..self
+            },
+            Counted::Reports => Counts {
+                reports: self.reports + 1,
+                ..self
+            },
+        }
+    }
+
+    /// The counts with one more that is counted so.
+    pub(crate) fn with(self, counted: Option<Counted>) -> Counts
+        requires { ¬ IsOneTooMany self [] counted }
+        ensures counted { AddsOne counted self result }
+        ensures letters { result.letters ≡ self.letters }
+    {
+        match counted {
+            Some(counted) => self.one_more(counted),
+            None => self,
+        }
+    }
+
+    /// The counts with so many letters more.
+    pub(crate) fn with_letters(self, letters: u32) -> Counts
+        requires { self.letters + letters < 2 ^ 32 }
+        ensures numbers { numbers result ≡ numbers self }
+        ensures letters { result.letters ≡ self.letters + letters }
+    {
+        Counts {
+            letters: self.letters + letters,
+            ..self
+        }
+    }
 }

@@ -2,17 +2,27 @@
 #![tactic(auto)]
 
 mod counted;
+mod fault;
 mod form;
+mod forms;
+mod groups;
 mod laws;
+mod line;
 mod lines;
+mod lists;
 mod parsing;
+mod read;
+mod reader;
 mod script;
+mod sign;
 
 pub use counted::{Counted, Counts, LETTER_LIMIT};
-pub use form::{Printed, Property};
+pub use fault::StatementFault;
+pub use form::{Printed, Property, procedure_of, property_of};
 pub use laws::{a_script_or_a_refusal, one_cut, one_place, one_statement};
 pub use lines::Lines;
 pub use parsing::{ParseRefused, parse};
+pub use read::read_statement;
 pub use script::{Script, ScriptLine};
 
 #[cfg(test)]

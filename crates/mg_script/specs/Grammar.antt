@@ -1,5 +1,5 @@
 -- The grammar of statements from left to right: what may stand behind a beginning.
-use Rattle.std.specs.Prelude.{◌≡◌, ℕ, Option, Some, None, List, [], ◌∷◌}
+use Rattle.std.specs.Prelude.{◌≡◌, ◌⊎◌, ℕ, Option, Some, None, List, [], ◌∷◌}
 use Rattle.mg_lex.specs.declared.keyword.Keyword.{Keyword}
 use Rattle.mg_lex.specs.declared.keyword.Keyword.TheVariants as keyword
 use Rattle.mg_lex.specs.declared.mark.Mark.{Mark}
@@ -7,6 +7,7 @@ use Rattle.mg_lex.specs.declared.mark.Mark.TheVariants as mark
 use Rattle.mg_terms.specs.declared.lexeme.Lexeme.{Lexeme}
 use Rattle.mg_terms.specs.declared.lexeme.Lexeme.TheVariants as lexeme
 use Rattle.mg_terms.specs.Word.{name, bare, Word, single}
+use Rattle.mg_terms.specs.Beginning.{BeginsBase, GoesOn}
 use Rattle.mg_words.specs.declared.procedure.Procedure.{Procedure}
 use Rattle.mg_script.specs.declared.counted.Counted.{Counted}
 use Rattle.mg_script.specs.declared.counted.Counted.TheVariants as counted
@@ -83,6 +84,33 @@ pub data Reads : Rest → List Piece → Type 0 where
   reads_more : (i : Item) (r : Rest) (ps : List Piece) → Reads (comma_then i r) ps → Reads (more i r) ps
   reads_last : (i : Item) (r : Rest) (ps : List Piece) → Reads r ps → Reads (more i r) ps
 
+-- with which lexemes a rest begins, and whether it may be nothing
+abbrev pub Begins : Rest → Lexeme → Type 0
+Begins end x = ⊥
+Begins (sign_then kind c r) x = IsIn c x
+Begins (word_then kind left f) x = BeginsBase x
+Begins (either a b) x = Begins a x ⊎ Begins b x
+Begins (more i r) x = (x ≡ lexeme.Mark mark.Comma) ⊎ Begins r x
+
+abbrev pub CanEnd : Rest → Type 0
+CanEnd end = Unit {0}
+CanEnd (sign_then kind c r) = ⊥
+CanEnd (word_then kind left f) = ⊥
+CanEnd (either a b) = CanEnd a ⊎ CanEnd b
+CanEnd (more i r) = CanEnd r
+
+-- a lexeme behind a list
+abbrev pub EndsList : Lexeme → Type 0
+EndsList x = (x ≡ lexeme.Mark mark.Greater) ⊎ ((x ≡ lexeme.Mark mark.Bar) ⊎ (x ≡ lexeme.Mark mark.CloseSquare))
+
+-- the next lexeme tells what comes, all the way
+abbrev pub Tells : Rest → Type 0
+Tells end = Unit {0}
+Tells (sign_then kind c r) = Tells r
+Tells (word_then kind left f) = (w : Word) → Tells (f w) × ((x : Lexeme) → Begins (f w) x → ¬ GoesOn w x)
+Tells (either a b) = Tells a × Tells b × ((x : Lexeme) → Begins a x → Begins b x → ⊥) × (CanEnd a → CanEnd b → ⊥)
+Tells (more i r) = Tells r × ((x : Lexeme) → Begins r x → EndsList x) × (¬ CanEnd r)
+
 -- the forms of statements behind their keywords
 abbrev pub close_group : Rest
 close_group = mark_then mark.Greater end
@@ -142,10 +170,33 @@ cancel_rest = name_then (sign_then None a_procedure end)
 abbrev pub report_rest : Rest
 report_rest = either (keyword_then keyword.Facts end) (either (keyword_then keyword.Log end) end)
 
+-- the forms from one on, in order
+abbrev pub from_report : Rest
+from_report = sign_then (Some counted.Reports) (this (lexeme.Keyword keyword.Report)) report_rest
+
+abbrev pub from_cancel : Rest
+from_cancel = either (keyword_then keyword.Cancel cancel_rest) from_report
+
+abbrev pub from_run : Rest
+from_run = either (keyword_then keyword.Run run_rest) from_cancel
+
+abbrev pub from_grant : Rest
+from_grant = either (keyword_then keyword.Grant grant_rest) from_run
+
+abbrev pub from_fund : Rest
+from_fund = either (keyword_then keyword.Fund fund_rest) from_grant
+
+abbrev pub from_ask : Rest
+from_ask = either (keyword_then keyword.Ask ask_rest) from_fund
+
+abbrev pub from_map : Rest
+from_map = either (keyword_then keyword.Map map_rest) from_ask
+
+abbrev pub from_subgroup : Rest
+from_subgroup = either (keyword_then keyword.Subgroup subgroup_rest) from_map
+
+abbrev pub from_word : Rest
+from_word = either (keyword_then keyword.Word word_rest) from_subgroup
+
 abbrev pub statement_rest : Rest
-statement_rest =
-    either (keyword_then keyword.Group group_rest) (either (keyword_then keyword.Word word_rest)
-    (either (keyword_then keyword.Subgroup subgroup_rest) (either (keyword_then keyword.Map map_rest)
-    (either (keyword_then keyword.Ask ask_rest) (either (keyword_then keyword.Fund fund_rest)
-    (either (keyword_then keyword.Grant grant_rest) (either (keyword_then keyword.Run run_rest)
-    (either (keyword_then keyword.Cancel cancel_rest) (sign_then (Some counted.Reports) (this (lexeme.Keyword keyword.Report)) report_rest)))))))))
+statement_rest = either (keyword_then keyword.Group group_rest) from_word
