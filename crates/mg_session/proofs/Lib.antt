@@ -11,3 +11,9 @@ pub mod Reaching
 pub mod Printed
 pub mod Steps
 pub mod Refused
+pub mod Firsts
+pub mod Seen
+pub mod Moving
+pub mod Phasing
+pub mod Joining
+pub mod Weaving

@@ -6,3 +6,5 @@ pub mod StateOk
 pub mod RunOk
 pub mod Kept
 pub mod Built
+pub mod At
+pub mod Parting

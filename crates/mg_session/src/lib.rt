@@ -3,6 +3,10 @@
 #![tactic(auto)]
 
 mod laws;
+mod moves;
+mod parts;
+mod phases;
+mod places;
 mod state;
 
 pub use laws::{
