@@ -1,5 +1,5 @@
 -- A run of the searches that take part is a run of all, in which the others sit out.
-use Rattle.std.proofs.Common.{◌≡◌, ℕ, zero, suc, ◌+◌, ◌≤◌, ◌↔◌, ◌⊎◌, inl, inr, Bool, true, false, List, [], ◌∷◌, length, map, set, refl, ap, sym, ◌∙◌, subst, arith}
+use Rattle.std.proofs.Common.{◌≡◌, ℕ, zero, suc, ◌+◌, ◌<◌, ◌≤◌, ◌^◌, ◌↔◌, ◌⊎◌, inl, inr, Bool, true, false, List, [], ◌∷◌, length, map, set, refl, ap, sym, ◌∙◌, subst, arith}
 use Rattle.std.specs.Prelude.{Some, slice_get}
 use Rattle.std.specs.List.{AllByRecursion}
 use Rattle.std.proofs.lemmas.List.{map-set}
@@ -28,6 +28,8 @@ use Rattle.mg_session.specs.Built.{one_worker}
 use Rattle.mg_session.specs.At.{AreTaking}
 use Rattle.mg_session.specs.Parting.{held_of, running, places_of, kept_of, joined, account_after, cells_after, HasSpent, HaveSpent}
 use Rattle.mg_session.specs.declared.state.Kept.{Kept}
+use Rattle.mg_session.specs.declared.parts.Place.{Place}
+use Rattle.mg_session.specs.declared.parts.Place.TheVariants.{Runs as at_run, Rests as at_rest}
 use Rattle.mg_ledger.specs.Ledgers.{LedgerState}
 use Rattle.mg_session.proofs.Ledger.{held_cons, spent_cons}
 use Rattle.mg_session.proofs.Phasing.{Taking}
@@ -237,6 +239,34 @@ module _ where
       (record { rises = omega arith; balance = omega arith }, have_spent (cell + 1) runs ks cs lasts ran (omega arith) (omega arith) keeps.1 last.1)
   have_spent cell (false ∷ runs) (k ∷ ks) (c ∷ cs) lasts ran e f keeps last = have_spent (cell + 1) runs ks cs lasts ran (omega arith) (omega arith) keeps last
 
+  pub places_long : (runs : List Bool) (ks : List Kept) → length runs ≡ length ks → length (places_of runs ks) ≡ length ks
+  places_long [] [] e = refl
+  places_long [] (k ∷ ks) e = absurd (omega arith)
+  places_long (b ∷ runs) [] e = absurd (omega arith)
+  places_long (true ∷ runs) (k ∷ ks) e = ap suc (places_long runs ks (omega arith))
+  places_long (false ∷ runs) (k ∷ ks) e = ap suc (places_long runs ks (omega arith))
+
+  joined_long : (places : List Place) (ran : List (Held Plain)) (cs : List Account) → HaveSpent places ran cs → length (joined places ran) ≡ length places
+  joined_long [] ran cs h = refl
+  joined_long (at_rest k ∷ places) ran [] h = absurd h
+  joined_long (at_rest k ∷ places) ran (c ∷ cs) h = ap suc (joined_long places ran cs h)
+  joined_long (at_run q ∷ places) [] cs h = absurd h
+  joined_long (at_run q ∷ places) (held ∷ ran) [] h = absurd h
+  joined_long (at_run q ∷ places) (held ∷ ran) (c ∷ cs) h = ap suc (joined_long places ran cs h.1)
+
+  cells_long : (places : List Place) (ran : List (Held Plain)) (cs : List Account) → HaveSpent places ran cs → length (cells_after places ran cs) ≡ length places
+  cells_long [] ran cs h = refl
+  cells_long (at_rest k ∷ places) ran [] h = absurd h
+  cells_long (at_rest k ∷ places) ran (c ∷ cs) h = ap suc (cells_long places ran cs h)
+  cells_long (at_run q ∷ places) [] cs h = absurd h
+  cells_long (at_run q ∷ places) (held ∷ ran) [] h = absurd h
+  cells_long (at_run q ∷ places) (held ∷ ran) (c ∷ cs) h = ap suc (cells_long places ran cs h.1)
+
+  pub have_cells : (places : List Place) (ran : List (Held Plain)) (cs : List Account) (ks' : List Kept) (cs' : List Account) → length places < 2 ^ 32 → HaveSpent places ran cs → ks' ≡ joined places ran → cs' ≡ cells_after places ran cs → HaveCells ks' cs'
+  have_cells places ran cs ks' cs' few h e f =
+      let long = ap length e ∙ joined_long places ran cs h in
+      let cells_too = ap length f ∙ cells_long places ran cs h in record { each = omega arith; few = omega arith }
+
   taking_long : (state : State) (xs : List SearchState) (runs : List Bool) → EachPair (Taking state) xs runs → length runs ≡ length xs
   taking_long state [] [] h = refl
   taking_long state [] (b ∷ runs) h = absurd h
@@ -265,6 +295,9 @@ module _ (state : State) (ledger : LedgerState) (ks : List Kept) (log : List (En
       let whole = units_first.balance.whole in
       let bounded = units_first.bounded in
       are_fit first 0 runs ks ledger.cells taking_first (subst (λ (s : State). AllByRecursion (λ (x : SearchState). Stands s.log (row_of true x)) s.searches) (sym is) stand) (each_within first.searches _ (omega arith))
+
+  pub few : length (places_of runs ks) < 2 ^ 32
+  few = let long = places_long runs ks each_run in let most = cells.few in omega arith
 
   module _ (ran : List (Held Plain)) (log' : List (Entry Fact)) (went : GoesRound recording plain_searching (running 0 runs ks ledger.cells) log ran log') where
     kept : EachPair (Keeps plain_searching) (came 0 runs ks ledger.cells) went.last.rows
