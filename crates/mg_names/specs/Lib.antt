@@ -1,1 +1,4 @@
 pub mod Plan
+pub mod Values
+pub mod Applies
+pub mod IsPlan

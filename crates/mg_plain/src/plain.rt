@@ -67,6 +67,15 @@ impl Plain {
         }
     }
 
+    /// The procedure.
+    pub fn procedure(&self) -> Procedure
+        ensures { result ≡ self.now.procedure }
+    {
+        // There is no other procedure yet.
+        let _texts = &self.texts;
+        Procedure::Derive
+    }
+
     /// The number of the last object tested, which is how many units are spent.
     pub fn cursor(&self) -> u64
         ensures value { result ≡ self.now.cursor }

@@ -8,12 +8,13 @@ use Rattle.mg_turn.specs.Turn.{Sound, EndFits}
 use Rattle.mg_words.specs.declared.procedure.Procedure.{Procedure}
 use Rattle.mg_words.specs.declared.procedure.Procedure.TheVariants.{Derive, Act, Residue, Rewrite, Cosets, Nielsen, Recall}
 use Rattle.mg_present.specs.Ask.{Inquiry}
+use Rattle.mg_names.specs.Applies.{Applies}
 use Rattle.mg_certs.specs.Claim.{Fact}
 use Rattle.mg_certs.specs.Validity.{recording}
 use Rattle.mg_plain.specs.Plain.{Plain, IsPlain, searching as plain_searching}
 use Rattle.mg_plain.specs.Sounds.{plain_sound}
 use Rattle.mg_plain.proofs.Turns.{turn_procedure, started_searched, turn_searched}
-use Rattle.mg_search.specs.Search.{Search, plain, procedure_of, is_open, SearchTurn, Opens, InRow, Applies, searching}
+use Rattle.mg_search.specs.Search.{Search, plain, procedure_of, is_open, SearchTurn, Opens, InRow, searching}
 
 -- what an end says of a plain search it says of it as a search
 end_fits : (search : Plain) (units : ℕ) (facts : Facts Fact) (spent : ℕ) (end : TurnEnd Fact) → EndFits recording plain_searching search units facts spent end → EndFits recording searching (plain search) units facts spent end

@@ -1,10 +1,9 @@
 -- Searches of all procedures.
-use Rattle.std.specs.Prelude.{◌≡◌, ℕ, ◌≤◌, Bool, List, []}
+use Rattle.std.specs.Prelude.{ℕ, Bool, List}
 use Rattle.mg_core.specs.declared.entries.Facts.{Facts}
 use Rattle.mg_turn.specs.declared.outcome.Outcome.{Outcome}
 use Rattle.mg_turn.specs.Turn.{Searching}
 use Rattle.mg_words.specs.declared.procedure.Procedure.{Procedure}
-use Rattle.mg_words.specs.declared.procedure.Procedure.TheVariants.{Derive, Act, Residue, Rewrite, Cosets, Nielsen, Recall}
 use Rattle.mg_present.specs.Presentation.{Group}
 use Rattle.mg_present.specs.Ask.{Inquiry}
 use Rattle.mg_certs.specs.Claim.{Fact}
@@ -45,16 +44,6 @@ InRow (plain search) = IsSearched search
 -- what a search has published that has found
 abbrev pub HasPublished : Search → List Fact → Type 0
 HasPublished (plain search) records = PlainPublished search records
-
--- the procedure may be used for the Ask
-abbrev pub Applies : Procedure → Inquiry → Type 0
-Applies Derive ask = Unit {0}
-Applies Act ask = 1 ≤ ask.group.generators
-Applies Residue ask = 1 ≤ ask.group.generators
-Applies Rewrite ask = ask.subgroup ≡ []
-Applies Cosets ask = 1 ≤ ask.group.generators
-Applies Nielsen ask = ask.group.relators ≡ []
-Applies Recall ask = Unit {0}
 
 -- what searches of all procedures mean to a run
 abbrev pub searching : Searching Fact Inquiry Group Search

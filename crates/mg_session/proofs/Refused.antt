@@ -1,12 +1,12 @@
 -- Steps that are refused.
-use Rattle.std.proofs.Common.{◌≡◌, ℕ, ◌+◌, ◌<◌, ◌≤◌, List, [], ◌∷◌, ◌++◌, subst, arith, inl, inr}
+use Rattle.std.proofs.Common.{◌≡◌, ℕ, ◌+◌, ◌<◌, List, ◌∷◌, subst, arith, inl, inr}
 use Rattle.std.specs.List.{AllByRecursion}
 use Rattle.mg_ledger.specs.declared.ledger.TheConstants.{MOST_FUNDED}
 use Rattle.mg_words.specs.declared.procedure.Procedure.{Procedure}
 use Rattle.mg_names.specs.Plan.{Plan, fund, grant, cancel}
 use Rattle.mg_report.specs.Refusals.{fund_refused, grant_refused, cancel_refused}
 use Rattle.mg_session.specs.State.{State, SearchState, Params, IsOf}
-use Rattle.mg_session.specs.Session.{IsAbsent, IsThere, After, Cancels, gives_back, is_refused}
+use Rattle.mg_session.specs.Session.{IsAbsent, IsThere, After, gives_back, is_refused}
 use Rattle.mg_session.specs.Output.{TextOf}
 use Rattle.mg_session.proofs.Lists.{all-back}
 

@@ -14,11 +14,12 @@ use Rattle.mg_workers.specs.Run.{Row}
 use Rattle.mg_workers.specs.Rows.{EachPair}
 use Rattle.mg_workers.proofs.Pairs.{all_along, all_imply, pairs_imply}
 use Rattle.mg_present.specs.Ask.{Inquiry}
+use Rattle.mg_names.specs.Applies.{Applies}
 use Rattle.mg_names.specs.Plan.{Plan, AskOf, Step, fund, grant, run, cancel, report, report_facts, report_log}
 use Rattle.mg_certs.specs.Claim.{Fact}
 use Rattle.mg_certs.specs.Validity.{IsValid, key_of}
 use Rattle.mg_plain.specs.Plain.{Plain}
-use Rattle.mg_search.specs.Search.{Search, plain, ask_of, procedure_of, is_open, Opens, Applies}
+use Rattle.mg_search.specs.Search.{Search, plain, ask_of, procedure_of, is_open, Opens}
 use Rattle.mg_search.proofs.Turns.{opens_in_row, opens_applies}
 use Rattle.mg_session.specs.State.{State, SearchState, Params, IsOf, empty, accounts, ledger_of, asks, give_back, ended, row_of, after_row}
 use Rattle.mg_session.specs.Run.{KeepsVerdict, after_rows, Rounds, within_bound, allow, TakesPart, Core, Idles, FurtherBy, IsSettledTo, is_found, is_stopped, stays, Settle, RunStep}

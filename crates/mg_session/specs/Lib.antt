@@ -4,3 +4,5 @@ pub mod Session
 pub mod Output
 pub mod StateOk
 pub mod RunOk
+pub mod Kept
+pub mod Built

@@ -10,10 +10,11 @@ use Rattle.mg_workers.specs.declared.held.End.{End}
 use Rattle.mg_workers.specs.declared.held.End.TheVariants as ends
 use Rattle.mg_workers.specs.Run.{Row}
 use Rattle.mg_workers.specs.Rows.{units_of}
+use Rattle.mg_names.specs.Applies.{Applies}
 use Rattle.mg_names.specs.Plan.{Plan, AskOf}
 use Rattle.mg_certs.specs.Claim.{Fact}
 use Rattle.mg_certs.specs.Validity.{IsValid, key_of}
-use Rattle.mg_search.specs.Search.{Search, ask_of, procedure_of, units_spent, is_open, InRow, HasPublished, Applies}
+use Rattle.mg_search.specs.Search.{Search, ask_of, procedure_of, units_spent, is_open, InRow, HasPublished}
 use Rattle.mg_session.specs.Run.{KeepsVerdict}
 use Rattle.mg_session.specs.State.{State, SearchState, ledger_of, asks, row_of}
 

@@ -3,6 +3,7 @@
 #![tactic(auto)]
 
 mod laws;
+mod state;
 
 pub use laws::{
     answers_are_true, keepers_have_the_least_number, open_searches_spend_their_reach,
