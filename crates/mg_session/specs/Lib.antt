@@ -6,3 +6,4 @@ pub mod StateOk
 pub mod RunOk
 pub mod Kept
 pub mod Built
+pub mod Lookups

@@ -2,7 +2,12 @@
 //! these are the definitions, and the laws that follow from them.
 #![tactic(auto)]
 
+mod blocks;
+mod entries;
+mod facts;
 mod laws;
+mod lookups;
+mod printing;
 mod state;
 
 pub use laws::{
