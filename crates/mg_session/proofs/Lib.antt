@@ -11,6 +11,6 @@ pub mod Reaching
 pub mod Printed
 pub mod Steps
 pub mod Refused
-pub mod Places
+pub mod Looked
 pub mod Shown
 pub mod Logged

@@ -19,7 +19,7 @@ use Rattle.mg_session.specs.State.{State, SearchState, asks, row_of}
 use Rattle.mg_session.specs.Output.{line_of, IsSumLine}
 use Rattle.mg_session.specs.StateOk.{IsAsked, Stands, StateOk}
 use Rattle.mg_session.specs.Lookups.{IsAt, IsTooLate, HasCause}
-use Rattle.mg_session.proofs.Places.{IsSearchOf, search_of_entry}
+use Rattle.mg_session.proofs.Looked.{IsSearchOf, search_of_entry}
 use Rattle.mg_session.proofs.Settling.{settled_grows}
 
 -- one pair more

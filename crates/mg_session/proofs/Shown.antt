@@ -12,7 +12,7 @@ use Rattle.mg_report.specs.declared.blocks.QuestionBlock.{QuestionBlock as Block
 use Rattle.mg_session.specs.State.{State, SearchState}
 use Rattle.mg_session.specs.Output.{procedure_place, line_of, IsBlock, AreBlocks}
 use Rattle.mg_session.specs.Lookups.{IsAt}
-use Rattle.mg_session.proofs.Places.{drop_at}
+use Rattle.mg_session.proofs.Looked.{drop_at}
 
 -- one question more
 blocks_more : (plan : Plan) (state : State) (n m : ℕ) (questions : List PlanQuestion) (i : ℕ) (question : PlanQuestion) (blocks : List QuestionBlock) (block : QuestionBlock) → m ≡ n + i → slice_get questions i ≡ Some question → AreBlocks plan state n (take i questions) blocks → IsBlock plan state m question block → AreBlocks plan state n (take (suc i) questions) (blocks ++ block ∷ [])

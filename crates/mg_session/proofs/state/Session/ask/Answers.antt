@@ -2,7 +2,7 @@ use Rattle.std.proofs.Common.{ap, length, arith}
 use Rattle.std.proofs.lemmas.Option.{slice_get_read}
 use Rattle.mg_search.specs.Search.{ask_of}
 use Rattle.mg_session.specs.State.{State}
-use Rattle.mg_session.proofs.Places.{seen_count, kept_at}
+use Rattle.mg_session.proofs.Looked.{seen_count, kept_at}
 use Rattle.mg_session.proofs.state.Session.ask.Goals as goal
 
 pub index-requires : goal.index-requires

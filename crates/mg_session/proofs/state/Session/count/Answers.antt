@@ -1,6 +1,6 @@
 use Rattle.std.proofs.Common.{ap, length, arith}
 use Rattle.mg_session.specs.State.{State}
-use Rattle.mg_session.proofs.Places.{seen_count}
+use Rattle.mg_session.proofs.Looked.{seen_count}
 use Rattle.mg_session.proofs.state.Session.count.Goals as goal
 
 pub returns : goal.returns

@@ -3,7 +3,7 @@ use Rattle.std.proofs.lemmas.Option.{slice_get_read}
 use Rattle.mg_report.specs.Values.{search_of}
 use Rattle.mg_session.specs.State.{State}
 use Rattle.mg_session.specs.Output.{line_of}
-use Rattle.mg_session.proofs.Places.{seen_count, kept_at}
+use Rattle.mg_session.proofs.Looked.{seen_count, kept_at}
 use Rattle.mg_session.proofs.state.Session.line.Goals as goal
 
 pub index-kept-requires : goal.index-kept-requires

@@ -1,6 +1,6 @@
 use Rattle.std.proofs.Common.{ap, length, arith}
 use Rattle.mg_session.specs.State.{State}
-use Rattle.mg_session.proofs.Places.{seen_count, number_at}
+use Rattle.mg_session.proofs.Looked.{seen_count, number_at}
 use Rattle.mg_session.proofs.state.Session.number.Goals as goal
 
 pub overflow_add-result : goal.overflow_add-result

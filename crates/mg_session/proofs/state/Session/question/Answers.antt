@@ -1,7 +1,7 @@
 use Rattle.std.proofs.Common.{ap, length, refl, arith}
 use Rattle.std.proofs.lemmas.Option.{slice_get_read}
 use Rattle.mg_session.specs.State.{State}
-use Rattle.mg_session.proofs.Places.{seen_count, kept_at}
+use Rattle.mg_session.proofs.Looked.{seen_count, kept_at}
 use Rattle.mg_session.proofs.state.Session.question.Goals as goal
 
 pub index-requires : goal.index-requires
