@@ -1,5 +1,5 @@
 //! The session of a script.
-ghost use Rattle.std.specs.Prelude.{◌≡◌, ◌<◌, ◌≤◌, ◌^◌, IfOk, [], ◌∷◌, option_map};
+ghost use Rattle.std.specs.Prelude.{◌≡◌, ◌<◌, ◌≤◌, ◌^◌, IfOk, [], ◌∷◌};
 ghost use Rattle.mg_numbers.specs.Plain.{NoneAmong, FindsFirst};
 ghost use Rattle.mg_derive.specs.Acceptance.{AcceptedAt, IsNumbered, IsAccepted};
 ghost use Rattle.magnus.specs.FormReads.{plan_of};
@@ -7,12 +7,13 @@ ghost use Rattle.magnus.specs.Script.{one_block, StandsOpen};
 ghost use Rattle.mg_session.specs.Output.{Prints};
 ghost use Rattle.magnus.specs.Output.{alone};
 ghost use Rattle.mg_report.specs.Report.{report_text};
-ghost use Rattle.mg_report.specs.Values.{verdict_of, search_of};
+ghost use Rattle.mg_report.specs.Values.{found_of, search_of};
 
 use crate::form::Script;
+use mg_certs::{Verdict, Yes};
 use mg_derive::{Advance, Derivation, Enumeration};
 use mg_ledger::Account;
-use mg_lists::NoMemory;
+use mg_lists::{List, NoMemory};
 use mg_report::{QuestionBlock, SearchLine, report};
 use mg_words::Procedure;
 use mg_workers::End;
@@ -80,7 +81,8 @@ fn report_found(
         },
         end: End::Found,
     };
-    report_one(alloc, script, script.fund - spent, Some((1, text)), line)
+    let verdict = Verdict::Yes(Yes::Derivation(text.copy(alloc)?));
+    report_one(alloc, script, script.fund - spent, Some((1, &verdict)), line)
 }
 
 /// The report of the one question with its one search.
@@ -88,18 +90,19 @@ fn report_one(
     alloc: Global,
     script: &Script,
     purse: u64,
-    verdict: Option<(u64, &Derivation)>,
+    verdict: Option<(u64, &Verdict)>,
     line: SearchLine,
 ) -> Result<Vec<u8>, NoMemory>
-    ensures { IfOk result (λ output. output.items ≡ report_text script.now.fund purse (one_block script.now (option_map (λ v. verdict_of v.0 v.1.now) verdict.entry) (search_of line) ∷ [])) }
+    ensures { IfOk result (λ output. output.items ≡ report_text script.now.fund purse (one_block script.now (found_of verdict.entry) (search_of line) ∷ [])) }
 {
-    let lines = [line];
+    let mut searches = List::new(alloc);
+    searches.push(line)?;
     let blocks = [QuestionBlock {
         name: b"q",
         names: script.names.as_slice(),
         ask: &script.ask,
         verdict,
-        searches: &lines,
+        searches,
     }];
     report(alloc, script.fund, purse, &blocks)
 }

@@ -17,3 +17,7 @@ pub mod Moving
 pub mod Phasing
 pub mod Joining
 pub mod Weaving
+pub mod Looked
+pub mod Shown
+pub mod Logged
+pub mod Sessions

@@ -8,3 +8,5 @@ pub mod Kept
 pub mod Built
 pub mod At
 pub mod Parting
+pub mod Lookups
+pub mod Stepped

@@ -1,12 +1,17 @@
-//! Sessions: what the steps of a plan do to units, searches and the log, and what is printed of them. So far
-//! these are the definitions, and the laws that follow from them.
+//! Sessions: what the steps of a plan do to units, searches and the log, and what is printed of them.
 #![tactic(auto)]
 
+mod blocks;
+mod entries;
+mod facts;
 mod laws;
+mod lookups;
 mod moves;
 mod parts;
 mod phases;
 mod places;
+mod printing;
+mod session;
 mod state;
 
 pub use laws::{
@@ -16,3 +21,5 @@ pub use laws::{
     steps_lead_from_state_to_state, the_first_number_settles, units_balance_where_printed,
     verdicts_carry_certificates,
 };
+pub use mg_core::NoMemory;
+pub use session::run_plan;
