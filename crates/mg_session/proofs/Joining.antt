@@ -1,5 +1,5 @@
 -- Searches are parted for a run, and joined again.
-use Rattle.std.proofs.Common.{◌≡◌, ℕ, zero, suc, ◌+◌, ◌-◌, ◌<◌, ◌≤◌, ◌^◌, Bool, true, false, List, [], ◌∷◌, ◌++◌, length, take, drop, set, get_or, reverse, refl, ap, sym, ◌∙◌, subst, arith, append-nil, append_assoc}
+use Rattle.std.proofs.Common.{◌≡◌, ℕ, zero, suc, ◌+◌, ◌-◌, ◌<◌, ◌≤◌, Bool, true, false, List, [], ◌∷◌, ◌++◌, length, take, drop, set, get_or, reverse, refl, ap, sym, ◌∙◌, subst, arith, append-nil, append_assoc}
 use Rattle.std.proofs.lemmas.List.{reverse-append, reverse-reverse, length-reverse, length-append}
 use Rattle.mg_ledger.specs.declared.ledger.Account.{Account}
 use Rattle.mg_ledger.specs.Accounts.{no_units}
@@ -10,7 +10,7 @@ use Rattle.mg_session.specs.Parting.{held_of, running, places_of, kept_of, joine
 use Rattle.mg_session.specs.declared.state.Kept.{Kept}
 use Rattle.mg_session.specs.declared.parts.Place.{Place}
 use Rattle.mg_session.specs.declared.parts.Place.TheVariants.{Runs, Rests}
-use Rattle.mg_session.proofs.Firsts.{drop_at, goes_on, taken_whole}
+use Rattle.mg_session.proofs.Firsts.{drop_at, goes_on}
 
 -- the last of a list is the first of it turned round
 pub turned : {X : Type 0} (xs ys : List X) (x : X) → xs ≡ ys ++ x ∷ [] → reverse xs ≡ x ∷ reverse ys
@@ -151,7 +151,7 @@ module _ (cell : ℕ) (ran : List (Held Plain)) (old : LedgerState) where
       let held_now : there.2.held + there.2.spent - held.spent ≡ held.held = omega arith in
       let after : Account = account_after held there.2 in
       let made : record (account_at old cell) { spent = held.spent; held = (account_at old cell).held + (account_at old cell).spent - held.spent } ≡ after =
-          ap (λ (a : Account). account_with a held.spent (a.held + a.spent - held.spent)) account ∙ ap (λ n. account_with there.2 held.spent n) held_now in
+      ap (λ (a : Account). account_with a held.spent (a.held + a.spent - held.spent)) account ∙ ap (λ n. account_with there.2 held.spent n) held_now in
       let cells : new.cells ≡ set old.cells cell after = ap (λ (l : LedgerState). l.cells) new_is ∙ ap (set old.cells cell) made in
       let dropped : drop (cell + 1) new.cells ≡ there.3 = ap (drop (cell + 1)) cells ∙ on.set_dropped after in
       record {
@@ -230,5 +230,5 @@ module _ (n next : ℕ) (places : List Place) (ran : List (Held Plain)) (first :
   joined_cells e =
       let spent : HaveSpent [] (reverse ran_left) (drop n now.cells) = subst (λ ps. HaveSpent (reverse ps) (reverse ran_left) (drop n now.cells)) e h.spent in
       let cells : now.cells ≡ cells_after places ran first.cells = all_taken now.cells n (none_behind (reverse ran_left) (drop n now.cells) spent) ∙ sym (append-nil (take n now.cells))
-          ∙ ap (λ ps. take n now.cells ++ cells_after (reverse ps) (reverse ran_left) (drop n now.cells)) (sym e) ∙ h.cells_are in
+      ∙ ap (λ ps. take n now.cells ++ cells_after (reverse ps) (reverse ran_left) (drop n now.cells)) (sym e) ∙ h.cells_are in
       h.ledger ∙ ap (λ cs. record first { cells = cs }) cells

@@ -1,15 +1,14 @@
 -- Steps that move units of one search.
-use Rattle.std.proofs.Common.{◌≡◌, ℕ, zero, suc, ◌+◌, ◌-◌, ◌≤◌, List, [], ◌∷◌, ◌++◌, length, set, refl, ap, sym, ◌∙◌, subst, arith, inl}
+use Rattle.std.proofs.Common.{◌≡◌, ℕ, zero, suc, ◌+◌, ◌-◌, List, [], ◌∷◌, ◌++◌, length, set, refl, ap, ◌∙◌, subst, arith}
 use Rattle.std.specs.Prelude.{Some, Result, Ok, Err, OnOk, IfOk, slice_get}
-use Rattle.std.specs.List.{AllByRecursion}
 use Rattle.mg_words.specs.declared.procedure.Procedure.{Procedure}
 use Rattle.mg_workers.proofs.Pairs.{all_at}
 use Rattle.mg_present.specs.Ask.{Inquiry}
-use Rattle.mg_names.specs.Plan.{Plan, AskOf, grant, cancel}
+use Rattle.mg_names.specs.Plan.{Plan, AskOf}
 use Rattle.mg_plain.specs.Plain.{Plain}
-use Rattle.mg_search.specs.Search.{Search, plain, Opens}
-use Rattle.mg_session.specs.State.{State, SearchState, Params, IsOf}
-use Rattle.mg_session.specs.Session.{IsThere, IsAbsent, granted, new_search, cancelled, Grants, to_one_there, to_a_new_one, Cancels, gives_back, After}
+use Rattle.mg_search.specs.Search.{plain, Opens}
+use Rattle.mg_session.specs.State.{State, SearchState, IsOf}
+use Rattle.mg_session.specs.Session.{IsAbsent, granted, new_search, cancelled, Grants, to_one_there, to_a_new_one, Cancels, gives_back}
 use Rattle.mg_session.specs.At.{IsAt, Replaces, with_new, IsReady, was_there, is_new}
 
 -- a list is parted at a place

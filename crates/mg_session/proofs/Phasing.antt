@@ -9,12 +9,12 @@ use Rattle.mg_ledger.specs.Accounts.{total_held}
 use Rattle.mg_ledger.specs.Ledgers.{IsLedger}
 use Rattle.mg_workers.specs.Rows.{EachPair}
 use Rattle.mg_workers.proofs.Pairs.{all_at, all_imply}
-use Rattle.mg_names.specs.Plan.{Plan, run}
+use Rattle.mg_names.specs.Plan.{Plan}
 use Rattle.mg_certs.specs.Claim.{Fact}
 use Rattle.mg_certs.specs.Validity.{key_of}
 use Rattle.mg_search.specs.Search.{Search, plain, ask_of}
-use Rattle.mg_session.specs.State.{State, SearchState, accounts, ledger_of, row_of, give_back, ended}
-use Rattle.mg_session.specs.Run.{allow, Reads, Idles, IsSettled, IsKeeper, KeepsVerdict, TakesPart, IsSettledTo, is_found, is_stopped, stays, Settle, Rounds, RunStep}
+use Rattle.mg_session.specs.State.{State, SearchState, accounts, ledger_of, row_of}
+use Rattle.mg_session.specs.Run.{allow, Reads, Idles, KeepsVerdict, TakesPart, IsSettledTo, is_found, is_stopped, stays, Settle, Rounds, RunStep}
 use Rattle.mg_session.specs.StateOk.{EndsSo, Stands, StateOk}
 use Rattle.mg_session.specs.Built.{one_worker}
 use Rattle.mg_session.specs.At.{Replaces}

@@ -2,22 +2,21 @@
 use Rattle.std.proofs.Common.{◌≡◌, ℕ, zero, suc, ◌+◌, ◌-◌, ◌<◌, ◌≤◌, ◌^◌, ◌↔◌, Bool, true, false, List, [], ◌∷◌, ◌++◌, length, set, get_or, ◌⊎◌, inl, inr, refl, ap, sym, ◌∙◌, subst, arith}
 use Rattle.std.specs.Prelude.{Option, Some, None, IsTrue, IfSome, IfNone, slice_get}
 use Rattle.std.specs.List.{AllByRecursion}
-use Rattle.std.proofs.lemmas.Option.{slice_get_within}
 use Rattle.mg_core.specs.declared.entries.Entry.{Entry}
 use Rattle.mg_core.specs.Log.{Settled}
 use Rattle.mg_ledger.specs.declared.ledger.Account.{Account}
 use Rattle.mg_ledger.specs.Accounts.{no_units, granted_more, given_back}
 use Rattle.mg_ledger.specs.Ledgers.{LedgerState, account_at, Step}
-use Rattle.mg_ledger.specs.Ledgers.Call.{AddCell, Fund, Grant, Spend, GiveBack}
+use Rattle.mg_ledger.specs.Ledgers.Call.{AddCell, Grant, GiveBack}
 use Rattle.mg_words.specs.declared.procedure.Procedure.{Procedure}
 use Rattle.mg_workers.specs.declared.held.End.{End}
 use Rattle.mg_workers.specs.declared.held.End.TheVariants as ends
 use Rattle.mg_certs.specs.Claim.{Fact}
 use Rattle.mg_certs.specs.Validity.{key_of}
 use Rattle.mg_plain.specs.Plain.{Plain}
-use Rattle.mg_search.specs.Search.{plain, ask_of, procedure_of}
+use Rattle.mg_search.specs.Search.{plain, ask_of}
 use Rattle.mg_session.specs.State.{State, SearchState, IsOf, give_back, ended}
-use Rattle.mg_session.specs.Run.{IsSettled, CanGoOn, TakesPart, IsKeeper, IsSettledTo, is_found, is_stopped, stays, allow, within_bound}
+use Rattle.mg_session.specs.Run.{IsSettled, CanGoOn, TakesPart, IsSettledTo, is_found, is_stopped, stays, allow, within_bound}
 use Rattle.mg_session.specs.Session.{IsAbsent, granted, cancelled, end_granted, end_cancelled, new_search}
 use Rattle.mg_session.specs.StateOk.{EndsSo}
 use Rattle.mg_session.specs.Kept.{seen, all_seen, HaveCells, state_of}
@@ -174,7 +173,7 @@ module _ (s : State) (ledger : LedgerState) (ks : List Kept) (log : List (Entry 
       after_is =
           let searches : all_seen 1 (set ks place k') ledger'.cells ≡ set (all_seen 1 ks ledger.cells) place y = ap (λ bs. all_seen 1 (set ks place k') bs) new_cells ∙ set_seen 1 ks ledger.cells place x k' a' there_in ∙ ap (λ v. set (all_seen 1 ks ledger.cells) place v) (sym y_is) in
           let first : state_of ledger' (set ks place k') log ≡ record { funded = ledger.funded; purse = purse; searches = set (all_seen 1 ks ledger.cells) place y; log = log } =
-              ap (λ f. state_with log f ledger'.purse (all_seen 1 (set ks place k') ledger'.cells)) same_funded ∙ ap (λ p. state_with log ledger.funded p (all_seen 1 (set ks place k') ledger'.cells)) same_purse ∙ ap (λ xs. state_with log ledger.funded purse xs) searches in
+          ap (λ f. state_with log f ledger'.purse (all_seen 1 (set ks place k') ledger'.cells)) same_funded ∙ ap (λ p. state_with log ledger.funded p (all_seen 1 (set ks place k') ledger'.cells)) same_purse ∙ ap (λ xs. state_with log ledger.funded purse xs) searches in
           first ∙ ap (λ (v : State). record v { purse = purse; searches = set v.searches place y }) is;
     }
 
@@ -243,15 +242,14 @@ module _ (s : State) (ledger : LedgerState) (ks : List Kept) (log : List (Entry 
         let y = ended end (give_back x) in
         let made : y ≡ seen x.number (record k { allowed = 0; end = end }) (given_back (account_at ledger place)) = ap (λ (v : SearchState). ended end (give_back v)) (is_kept k e) in
         let same_end : x.end ≡ k.end = ap (λ (v : SearchState). v.end) (is_kept k e) in
-        let purse : s.purse + x.account.held ≡ s.purse + (x.account.held - 0) = omega arith in
-        (
+        let purse : s.purse + x.account.held ≡ s.purse + (x.account.held - 0) = omega arith in (
           y,
           elim (end_settled k.end end found stopped) [
             | inl h ↦ is_found settled (so.found.0 (same_end ∙ h.1)) (ap (λ n. ended n (give_back x)) h.0)
             | inr h ↦ is_stopped settled (λ keeper. h.1 (sym same_end ∙ so.found.1 keeper)) (ap (λ n. ended n (give_back x)) h.0)
           ],
           replaced ledger' (record k { allowed = 0; end = end }) (given_back (account_at ledger place)) y (s.purse + (x.account.held - 0)) (ap (λ (l : LedgerState). l.funded) new)
-          (ap (λ (l : LedgerState). l.purse) new ∙ ap (λ (a : Account). ledger.purse + a.held) account_is ∙ ap (λ (v : State). v.purse + x.account.held) is ∙ purse) (ap (λ (l : LedgerState). l.cells) new) made,
+              (ap (λ (l : LedgerState). l.purse) new ∙ ap (λ (a : Account). ledger.purse + a.held) account_is ∙ ap (λ (v : State). v.purse + x.account.held) is ∙ purse) (ap (λ (l : LedgerState). l.cells) new) made,
         )
 
   pub added : (ledger' : LedgerState) (question : ℕ) (search : Plain) (now : List Kept) → now ≡ ks ++ fresh question search ∷ [] → Step ledger AddCell ledger' →

@@ -13,7 +13,7 @@ use Rattle.mg_names.specs.Values.{step_of}
 use Rattle.mg_names.specs.declared.plan.PlanStep.{PlanStep}
 use Rattle.mg_session.specs.State.{State, SearchState, empty}
 use Rattle.mg_session.specs.Session.{granted, new_search, cancelled, Grants, to_one_there, to_a_new_one, Cancels, gives_back, is_refused, After, Continues}
-use Rattle.mg_session.specs.Output.{Texts, Prints}
+use Rattle.mg_session.specs.Output.{TextOf, Texts, Prints}
 use Rattle.mg_session.specs.StateOk.{StateOk}
 use Rattle.mg_session.specs.RunOk.{IsRunTo}
 use Rattle.mg_session.specs.Built.{one_worker, IsBuilt, IsBuiltStep}
@@ -23,6 +23,9 @@ use Rattle.mg_session.proofs.Lists.{all-append, all-front, all-back}
 use Rattle.mg_session.proofs.States.{empty_ok, after_ok}
 use Rattle.mg_session.proofs.Runs.{run_is_ok}
 use Rattle.mg_session.proofs.Firsts.{drop_at}
+
+pub stepped : (plan : Plan) (p q : PlanStep) (old new : State) (text : List ℕ) → p ≡ q → After plan one_worker (step_of q) old new → ((shown : List ℕ) → TextOf plan shown (step_of q) old text shown) → IsStepped plan (step_of p) old new text
+stepped plan p q old new text e after text_is = subst (λ s. IsStepped plan (step_of s) old new text) (sym e) (record { after = after; text_is = text_is })
 
 -- after so many steps there are no more searches, and none was granted more than 2^62 units at each
 abbrev Granted : ℕ → SearchState → Type 0
@@ -124,19 +127,19 @@ going_begins plan steps state output are e o = record {
 }
 
 module _ (plan : Plan) (steps : List PlanStep) (i : ℕ) (state : State) (output : List ℕ) (h : Going plan steps i state output) where
-  step_there : (step : PlanStep) → i < length steps → step ≡ get_or steps i step → slice_get plan.steps i ≡ Some (step_of step)
-  step_there step within is = ap (λ ss. slice_get ss i) (sym h.are) ∙ there steps i within ∙ ap (λ s. Some (step_of s)) (sym is)
+  step_there : (d : PlanStep) → i < length steps → slice_get plan.steps i ≡ Some (step_of (get_or steps i d))
+  step_there d within = ap (λ ss. slice_get ss i) (sym h.are) ∙ there steps i within
     where
-      there : (ss : List PlanStep) (n : ℕ) → n < length ss → slice_get (map step_of ss) n ≡ Some (step_of (get_or ss n step))
+      there : (ss : List PlanStep) (n : ℕ) → n < length ss → slice_get (map step_of ss) n ≡ Some (step_of (get_or ss n d))
       there [] n w = absurd (omega arith)
       there (s ∷ ss) zero w = refl
       there (s ∷ ss) (suc n) w = there ss n (omega arith)
 
-  pub going_step : (step : PlanStep) → IsPlan plan → i < length steps → step ≡ get_or steps i step → IsStep plan (step_of step)
-  going_step step is_plan within is = all_at (IsStep plan) plan.steps i (step_of step) is_plan.steps (step_there step within is)
+  pub going_step : (d : PlanStep) → IsPlan plan → i < length steps → IsStep plan (step_of (get_or steps i d))
+  going_step d is_plan within = all_at (IsStep plan) plan.steps i (step_of (get_or steps i d)) is_plan.steps (step_there d within)
 
-  pub going_built : (step : PlanStep) → IsBuilt plan → i < length steps → step ≡ get_or steps i step → IsBuiltStep (step_of step)
-  going_built step built within is = all_at IsBuiltStep plan.steps i (step_of step) built (step_there step within is)
+  pub going_built : (d : PlanStep) → IsBuilt plan → i < length steps → IsBuiltStep (step_of (get_or steps i d))
+  going_built d built within = all_at IsBuiltStep plan.steps i (step_of (get_or steps i d)) built (step_there d within)
 
   steps_within : IsPlan plan → i < length steps → i < 2147483648
   steps_within is_plan within =
@@ -155,17 +158,17 @@ module _ (plan : Plan) (steps : List PlanStep) (i : ℕ) (state : State) (output
   going_counted is_plan within =
       let upto = steps_within is_plan within in all_imply (Granted (4611686018427387904 * i)) (Granted MOST_GRANTED) (λ x g. omega arith) state.searches h.few.granted
 
-  pub going_next : (step : PlanStep) (new : State) (text output' : List ℕ) → IsPlan plan → i < length steps → step ≡ get_or steps i step → IsStepped plan (step_of step) state new text → output' ≡ output ++ text →
+  pub going_next : (d : PlanStep) (new : State) (text output' : List ℕ) → IsPlan plan → i < length steps → IsStepped plan (step_of (get_or steps i d)) state new text → output' ≡ output ++ text →
       Going plan steps (i + 1) new output'
-  going_next step new text output' is_plan within is stepped output_is =
-      let here : drop i steps ≡ step ∷ drop (i + 1) steps = drop_at steps i step within ∙ ap (λ s. s ∷ drop (i + 1) steps) (sym is) in
+  going_next d new text output' is_plan within is_stepped output_is =
+      let here : drop i steps ≡ get_or steps i d ∷ drop (i + 1) steps = drop_at steps i d within in
       record {
         are = h.are;
-        ok = after_ok plan 1 one_worker (step_of step) state new refl stepped.after h.ok;
-        few = few_next plan i state new h.few (step_of step) (going_step step is_plan within is) h.ok stepped.after;
+        ok = after_ok plan 1 one_worker (step_of (get_or steps i d)) state new refl is_stepped.after h.ok;
+        few = few_next plan i state new h.few (step_of (get_or steps i d)) (going_step d is_plan within) h.ok is_stepped.after;
         prints = λ later texts continues are_texts.
-            let all = h.prints (new ∷ later) (text ∷ texts) (subst (λ ss. Continues plan one_worker state (map step_of ss) (new ∷ later)) (sym here) (stepped.after, continues))
-            (subst (λ ss. Texts plan [] (map step_of ss) (state ∷ new ∷ later) (text ∷ texts)) (sym here) ([], stepped.text_is [], are_texts)) in
+            let all = h.prints (new ∷ later) (text ∷ texts) (subst (λ ss. Continues plan one_worker state (map step_of ss) (new ∷ later)) (sym here) (is_stepped.after, continues))
+            (subst (λ ss. Texts plan [] (map step_of ss) (state ∷ new ∷ later) (text ∷ texts)) (sym here) ([], is_stepped.text_is [], are_texts)) in
             subst (Prints plan one_worker) (sym (ap (λ out. out ++ flat_map (λ t. t) texts) output_is ∙ append_assoc output text (flat_map (λ t. t) texts))) all;
       }
 

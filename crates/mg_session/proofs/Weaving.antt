@@ -1,5 +1,5 @@
 -- A run of the searches that take part is a run of all, in which the others sit out.
-use Rattle.std.proofs.Common.{◌≡◌, ℕ, zero, suc, ◌+◌, ◌<◌, ◌≤◌, ◌^◌, ◌↔◌, ◌⊎◌, inl, inr, Bool, true, false, List, [], ◌∷◌, length, map, set, refl, ap, sym, ◌∙◌, subst, arith}
+use Rattle.std.proofs.Common.{◌≡◌, ℕ, zero, suc, ◌+◌, ◌<◌, ◌≤◌, ◌^◌, ◌⊎◌, inl, Bool, true, false, List, [], ◌∷◌, length, map, set, refl, ap, sym, ◌∙◌, subst, arith}
 use Rattle.std.specs.Prelude.{Some, slice_get}
 use Rattle.std.specs.List.{AllByRecursion}
 use Rattle.std.proofs.lemmas.List.{map-set}
@@ -11,7 +11,7 @@ use Rattle.mg_ledger.specs.Ledgers.{IsLedger}
 use Rattle.mg_workers.specs.declared.held.Held.{Held}
 use Rattle.mg_workers.specs.declared.held.End.{End}
 use Rattle.mg_workers.specs.declared.held.End.TheVariants as ends
-use Rattle.mg_workers.specs.Run.{Row, Running, Event, Leads, Runs, Finished, row_after}
+use Rattle.mg_workers.specs.Run.{Row, Running, Event, Leads, Runs, row_after}
 use Rattle.mg_workers.specs.Rows.{EachPair, Keeps, AreFunded}
 use Rattle.mg_workers.specs.Round.{even, row_of as held_row, entered, IsFit, GoesRound}
 use Rattle.mg_workers.proofs.Events.{runs_keep}
@@ -26,7 +26,7 @@ use Rattle.mg_session.specs.StateOk.{EndsSo, Stands}
 use Rattle.mg_session.specs.Kept.{seen, all_seen, HaveCells, state_of}
 use Rattle.mg_session.specs.Built.{one_worker}
 use Rattle.mg_session.specs.At.{AreTaking}
-use Rattle.mg_session.specs.Parting.{held_of, running, places_of, kept_of, joined, account_after, cells_after, HasSpent, HaveSpent}
+use Rattle.mg_session.specs.Parting.{running, places_of, kept_of, joined, account_after, cells_after, HaveSpent}
 use Rattle.mg_session.specs.declared.state.Kept.{Kept}
 use Rattle.mg_session.specs.declared.parts.Place.{Place}
 use Rattle.mg_session.specs.declared.parts.Place.TheVariants.{Runs as at_run, Rests as at_rest}
@@ -174,8 +174,7 @@ module _ (state : State) where
   are_fit cell (true ∷ runs) (k ∷ ks) [] h stand within = tt
   are_fit cell (false ∷ runs) (k ∷ ks) [] h stand within = tt
   are_fit cell (true ∷ runs) (k ∷ ks) (c ∷ cs) h stand within =
-      let takes = h.0.0 refl in
-      (
+      let takes = h.0.0 refl in (
         record {
           within = stand.0.allowed;
           counted = stand.0.units;

@@ -113,10 +113,7 @@ fn take_spent(ledger: &mut Ledger, cell: u32, spent: u64)
 }
 
 /// The same searches, the last one first.
-fn turned_round(
-    alloc: Global,
-    mut searches: HeldList<Plain>,
-) -> Result<Vec<Held<Plain>>, NoMemory>
+fn turned_round(alloc: Global, mut searches: HeldList<Plain>) -> Result<Vec<Held<Plain>>, NoMemory>
     ensures { IfOk result (λ turned. turned.items ≡ reverse searches) }
 {
     let mut turned = Vec::new(alloc);
@@ -127,12 +124,7 @@ fn turned_round(
 }
 
 /// The search at a place: the next of those that ran, whose cell gives what it spent, or the one that rests.
-fn put_back(
-    ledger: &mut Ledger,
-    cell: u32,
-    place: Place,
-    ran: &mut Vec<Held<Plain>>,
-) -> Kept
+fn put_back(ledger: &mut Ledger, cell: u32, place: Place, ran: &mut Vec<Held<Plain>>) -> Kept
     requires { (places : List PlaceOf) × HaveSpent (place ∷ places) (reverse ran.old.items) (drop cell ledger.old.cells) }
     ensures { (places : List PlaceOf) → HaveSpent (place ∷ places) (reverse ran.old.items) (drop cell ledger.old.cells) →
         IsPutBack cell place places ran.old.items ledger.old result ran.new.items ledger.new }

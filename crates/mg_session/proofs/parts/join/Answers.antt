@@ -1,5 +1,5 @@
-use Rattle.std.proofs.Common.{rules, ◌≡◌, [], length, arith}
-use Rattle.mg_session.proofs.Joining.{longer, join_begins, join_can, join_within, join_next, joined_searches, joined_cells}
+use Rattle.std.proofs.Common.{rules, ◌≡◌, [], length}
+use Rattle.mg_session.proofs.Joining.{longer, join_can, join_next, joined_searches, joined_cells}
 use Rattle.mg_session.proofs.parts.join.Goals as goal
 
 pub put_back-requires : goal.put_back-requires

@@ -1,4 +1,4 @@
-use Rattle.std.proofs.Common.{rules, ◌≡◌, ◌<◌, ◌++◌, ◌∷◌, [], false, true, length, get_or, ap, ◌∙◌, subst, arith}
+use Rattle.std.proofs.Common.{rules, ◌≡◌, ◌++◌, ◌∷◌, [], false, true, length, get_or, ap, ◌∙◌, subst, arith}
 use Rattle.mg_ledger.specs.Ledgers.{account_at}
 use Rattle.mg_session.specs.Parting.{held_of}
 use Rattle.mg_session.proofs.Joining.{longer, part_starts, part_within, part_runs, part_rests, parted_places, parted_running}

@@ -1,5 +1,5 @@
 use Rattle.mg_session.specs.declared.parts.Place.TheVariants.{Runs, Rests}
-use Rattle.mg_session.proofs.Joining.{rests_back, runs_back, put_at, none_ran, can_spend}
+use Rattle.mg_session.proofs.Joining.{rests_back, runs_back, put_at}
 use Rattle.mg_session.proofs.parts.put_back.Goals as goal
 
 pub returns-in-Rests : goal.returns-in-Rests

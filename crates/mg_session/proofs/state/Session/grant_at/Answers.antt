@@ -1,4 +1,4 @@
-use Rattle.mg_session.proofs.Seen.{cell_within, kept_within, counted, granted_at}
+use Rattle.mg_session.proofs.Seen.{cell_within, counted, granted_at}
 use Rattle.mg_session.proofs.state.Session.grant_at.Goals as goal
 
 pub grant-requires-clause-there : goal.grant-requires-clause-there

@@ -1,4 +1,4 @@
-use Rattle.std.proofs.Common.{◌≡◌, ◌<◌, ◌^◌, length, map, false, ap, sym, ◌∙◌, subst}
+use Rattle.std.proofs.Common.{◌<◌, ◌^◌, length, map, false, ap, sym, ◌∙◌, subst}
 use Rattle.std.specs.List.{AllByRecursion}
 use Rattle.mg_ledger.specs.Ledgers.{LedgerState}
 use Rattle.mg_workers.specs.Round.{row_of, IsFit, GoesRound}

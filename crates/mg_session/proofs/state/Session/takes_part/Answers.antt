@@ -1,4 +1,4 @@
-use Rattle.std.proofs.Common.{◌≡◌, ◌↔◌, arith, subst}
+use Rattle.std.proofs.Common.{◌↔◌, arith, subst}
 use Rattle.std.specs.Prelude.{IsTrue}
 use Rattle.mg_ledger.specs.declared.ledger.Account.{Account}
 use Rattle.mg_session.specs.At.{MayRun}
