@@ -1,4 +1,5 @@
 use super::*;
+use mg_certs::{Verdict, Yes};
 use mg_derive::{Derivation, Symbol};
 use mg_lists::List;
 use mg_words::{Letter, Word};
@@ -52,7 +53,8 @@ fn words_print(alloc: Global, lists: &[&[Letter]], text: &[u8]) -> Result<bool, 
 fn derivation_prints(alloc: Global, symbols: &[Symbol], text: &[u8]) -> Result<bool, NoMemory> {
     let names = a_and_b(alloc)?;
     let derivation = Derivation::from_symbols(alloc, symbols)?;
-    let out = print(alloc, &derivation, names.as_slice())?;
+    let verdict = Verdict::Yes(Yes::Derivation(derivation));
+    let out = print(alloc, &verdict, names.as_slice())?;
     Ok(out.as_slice() == text)
 }
 

@@ -2,11 +2,13 @@
 ghost use Rattle.std.specs.Prelude.{◌≡◌, [], ◌∷◌, ◌++◌, IfOk, OnOk};
 ghost use Rattle.std.specs.Fmt.{decimal};
 ghost use Rattle.mg_certs.specs.Claim.{affirmed, derivation};
+ghost use Rattle.mg_certs.specs.Values.{verdict_of};
 ghost use Rattle.mg_certtext.specs.Pieces.{spaced};
 ghost use Rattle.mg_certtext.specs.Verdicts.{sign, symbol_piece, verdict_text};
 
 use crate::pieces::{push_bytes, push_decimal, push_piece};
 use crate::words::push_run;
+use mg_certs::{Verdict, Yes};
 use mg_derive::{Derivation, Symbol};
 use mg_lists::{List, NoMemory};
 use std::alloc::Global;
@@ -51,9 +53,12 @@ fn push_symbol(
     }
 }
 
-/// The text of the verdict that a derivation shows, where the generators have these names in order. It has no
-/// end of a line.
-pub fn print(alloc: Global, text: &Derivation, names: &[List<u8>]) -> Result<Vec<u8>, NoMemory>
+/// The text of YES with a derivation.
+fn print_derivation(
+    alloc: Global,
+    text: &Derivation,
+    names: &[List<u8>],
+) -> Result<Vec<u8>, NoMemory>
     ensures { IfOk result (λ printed. printed.items ≡ verdict_text names.now (affirmed (derivation text.now.symbols))) }
 {
     let mut out = Vec::new(alloc);
@@ -62,4 +67,13 @@ pub fn print(alloc: Global, text: &Derivation, names: &[List<u8>]) -> Result<Vec
         push_symbol(alloc, &mut out, names, *symbol)?;
     }
     Ok(out)
+}
+
+/// The text of a verdict, where the generators have these names in order. It has no end of a line.
+pub fn print(alloc: Global, verdict: &Verdict, names: &[List<u8>]) -> Result<Vec<u8>, NoMemory>
+    ensures { IfOk result (λ printed. printed.items ≡ verdict_text names.now (verdict_of verdict.now)) }
+{
+    match verdict {
+        Verdict::Yes(Yes::Derivation(text)) => print_derivation(alloc, text, names),
+    }
 }

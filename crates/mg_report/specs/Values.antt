@@ -1,8 +1,9 @@
 -- What the values handed in say.
 use Rattle.std.specs.Prelude.{ℕ, Option, map, option_map}
 use Rattle.std.specs.Borrow.{Bor}
-use Rattle.mg_derive.specs.Room.{Text}
-use Rattle.mg_certs.specs.Claim.{Verdict, affirmed, derivation, Fact, settled}
+use Rattle.mg_certs.specs.Claim.{Verdict, Fact, settled}
+use Rattle.mg_certs.specs.Values.{verdict_of}
+use Rattle.mg_certs.specs.declared.verdict.Verdict.{Verdict as Answer}
 use Rattle.mg_report.specs.Report.{SearchLine, QuestionBlock}
 use Rattle.mg_report.specs.Log.{Fate, kept, dropped_by, EntryLine, SumLine}
 use Rattle.mg_report.specs.declared.blocks.SearchLine.{SearchLine as Search}
@@ -16,18 +17,14 @@ use Rattle.mg_report.specs.declared.log.SumLine.{SumLine as Sum}
 abbrev pub search_of : Search → SearchLine
 search_of s = record { procedure = s.procedure; account = s.account; end = s.end }
 
--- a derivation, with the number of its fact, is a verdict that affirms
-abbrev pub verdict_of : ℕ → Text → ℕ × Verdict
-verdict_of number text = (number, affirmed (derivation text.symbols))
-
-abbrev pub found_of : Option (ℕ × Bor Text) → Option (ℕ × Verdict)
-found_of found = option_map (λ v. verdict_of v.0 v.1.now) found
+abbrev pub found_of : Option (ℕ × Bor Answer) → Option (ℕ × Verdict)
+found_of found = option_map (λ v. (v.0, verdict_of v.1.now)) found
 
 abbrev pub block_of : Question → QuestionBlock
-block_of b = record { name = b.name.now; names = b.names.now; ask = b.ask.now; verdict = found_of b.verdict; searches = map search_of b.searches.now }
+block_of b = record { name = b.name.now; names = b.names.now; ask = b.ask.now; verdict = found_of b.verdict; searches = map search_of b.searches }
 
 abbrev pub fact_of : FactBlock → Fact
-fact_of f = settled f.ask.now (affirmed (derivation f.verdict.now.symbols))
+fact_of f = settled f.ask.now (verdict_of f.verdict.now)
 
 abbrev pub fate_of : EntryFate → Fate
 fate_of (Kept records) = kept records

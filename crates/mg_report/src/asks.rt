@@ -1,11 +1,11 @@
 //! The lines of what is asked, and of a verdict.
 ghost use Rattle.std.specs.Prelude.{◌≡◌, ◌++◌, OnOk};
 ghost use Rattle.mg_words.specs.Word.{letters_of};
-ghost use Rattle.mg_certs.specs.Claim.{affirmed, derivation};
+ghost use Rattle.mg_certs.specs.Values.{verdict_of};
 ghost use Rattle.mg_report.specs.Report.{verdict_line, group_text, words_text, ask_text};
 
+use mg_certs::Verdict;
 use mg_certtext::{print, push_bytes, push_names, push_piece, push_words};
-use mg_derive::Derivation;
 use mg_lists::{List, NoMemory};
 use mg_present::Ask;
 use mg_words::{Word, Words};
@@ -60,16 +60,16 @@ pub(crate) fn push_ask(
     push_words_line(alloc, out, b"goals", names, ask.goals())
 }
 
-// Pushes the line of the verdict that a derivation shows.
+// Pushes the line of a verdict.
 #[tactic(auto, unfolding(crate::specs::Report::verdict_line))]
 pub(crate) fn push_verdict(
     alloc: Global,
     out: &mut Vec<u8>,
     names: &[List<u8>],
-    text: &Derivation,
+    verdict: &Verdict,
 ) -> Result<(), NoMemory>
-    ensures { OnOk result (out.new.items ≡ out.old.items ++ verdict_line names.now (affirmed (derivation text.now.symbols))) }
+    ensures { OnOk result (out.new.items ≡ out.old.items ++ verdict_line names.now (verdict_of verdict.now)) }
 {
-    push_bytes(out, print(alloc, text, names)?.as_slice())?;
+    push_bytes(out, print(alloc, verdict, names)?.as_slice())?;
     push_bytes(out, b"\n")
 }

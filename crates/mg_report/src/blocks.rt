@@ -3,12 +3,13 @@ ghost use Rattle.std.specs.Prelude.{◌≡◌, [], ◌∷◌, ◌++◌, IfOk, On
 ghost use Rattle.std.specs.List.{flat_map};
 ghost use Rattle.std.specs.Fmt.{decimal};
 ghost use Rattle.mg_certtext.specs.Pieces.{spaced};
-ghost use Rattle.mg_report.specs.Report.{found_line, units_pieces, procedure_piece, limit_piece, end_pieces, search_text, question_text, block_text, report_text};
+ghost use Rattle.mg_certs.specs.Values.{verdict_of};
+ghost use Rattle.mg_report.specs.Report.{answer_piece, standing, found_line, units_pieces, procedure_piece, limit_piece, end_pieces, search_text, question_text, block_text, report_text};
 ghost use Rattle.mg_report.specs.Values.{search_of, found_of, block_of};
 
 use crate::asks::{push_ask, push_verdict};
+use mg_certs::Verdict;
 use mg_certtext::{push_bytes, push_count, push_number, push_piece};
-use mg_derive::Derivation;
 use mg_ledger::Account;
 use mg_lists::{List, NoMemory};
 use mg_present::Ask;
@@ -28,8 +29,11 @@ pub struct SearchLine {
     pub end: End,
 }
 
+/// A list of what a report says of searches.
+pub type SearchLines = List<SearchLine>;
+
 /// What a report says of one question.
-#[derive(Clone, Copy)]
+#[derive(Drop)]
 pub struct QuestionBlock<'a> {
     /// The name of the question.
     pub name: &'a [u8],
@@ -37,10 +41,10 @@ pub struct QuestionBlock<'a> {
     pub names: &'a [List<u8>],
     /// What is asked.
     pub ask: &'a Ask,
-    /// The derivation that settles it, with the number of its fact.
-    pub verdict: Option<(u64, &'a Derivation)>,
+    /// The verdict, with the number of its fact.
+    pub verdict: Option<(u64, &'a Verdict)>,
     /// Its searches, in the order of the procedures.
-    pub searches: &'a [SearchLine],
+    pub searches: SearchLines,
 }
 
 // The word for a procedure.
@@ -55,6 +59,14 @@ pub(crate) fn procedure_bytes(procedure: Procedure) -> &'static [u8]
         Procedure::Cosets => b"cosets",
         Procedure::Nielsen => b"nielsen",
         Procedure::Recall => b"recall",
+    }
+}
+
+fn answer_bytes(verdict: &Verdict) -> &'static [u8]
+    ensures { result.now ≡ answer_piece (verdict_of verdict.now) }
+{
+    match verdict {
+        Verdict::Yes(_) => b"YES",
     }
 }
 
@@ -128,25 +140,36 @@ fn push_searches(alloc: Global, out: &mut Vec<u8>, searches: &[SearchLine]) -> R
     Ok(())
 }
 
+/// Pushes whether a question is open, or which fact is its verdict.
+fn push_standing(
+    alloc: Global,
+    out: &mut Vec<u8>,
+    verdict: Option<(u64, &Verdict)>,
+) -> Result<(), NoMemory>
+    ensures { OnOk result (out.new.items ≡ out.old.items ++ spaced (standing (found_of verdict.entry))) }
+{
+    match verdict {
+        None => push_piece(out, b"OPEN"),
+        Some((number, verdict)) => {
+            push_piece(out, answer_bytes(verdict))?;
+            push_count(alloc, out, b"fact", number as u128)
+        }
+    }
+}
+
 /// Pushes the line that says whether a question is open.
 #[tactic(auto, unfolding(crate::specs::Report::question_text))]
 fn push_question(
     alloc: Global,
     out: &mut Vec<u8>,
     name: &[u8],
-    verdict: Option<(u64, &Derivation)>,
+    verdict: Option<(u64, &Verdict)>,
 ) -> Result<(), NoMemory>
     ensures { OnOk result (out.new.items ≡ out.old.items ++ question_text name.now (found_of verdict.entry)) }
 {
     push_bytes(out, b"question")?;
     push_piece(out, name)?;
-    match verdict {
-        None => push_piece(out, b"OPEN")?,
-        Some((number, _)) => {
-            push_piece(out, b"YES")?;
-            push_count(alloc, out, b"fact", number as u128)?;
-        }
-    }
+    push_standing(alloc, out, verdict)?;
     push_bytes(out, b"\n")
 }
 
@@ -156,13 +179,13 @@ fn push_found(
     alloc: Global,
     out: &mut Vec<u8>,
     names: &[List<u8>],
-    verdict: Option<(u64, &Derivation)>,
+    verdict: Option<(u64, &Verdict)>,
 ) -> Result<(), NoMemory>
     ensures { OnOk result (out.new.items ≡ out.old.items ++ found_line names.now (found_of verdict.entry)) }
 {
     match verdict {
         None => Ok(()),
-        Some((_, text)) => push_verdict(alloc, out, names, text),
+        Some((_, verdict)) => push_verdict(alloc, out, names, verdict),
     }
 }
 
@@ -174,7 +197,7 @@ fn push_block(alloc: Global, out: &mut Vec<u8>, block: &QuestionBlock) -> Result
     push_question(alloc, out, block.name, block.verdict)?;
     push_ask(alloc, out, block.names, block.ask)?;
     push_found(alloc, out, block.names, block.verdict)?;
-    push_searches(alloc, out, block.searches)
+    push_searches(alloc, out, block.searches.as_slice())
 }
 
 /// The text of a report of these questions, with all the units that were funded and those left in the

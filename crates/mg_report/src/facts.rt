@@ -5,8 +5,8 @@ ghost use Rattle.mg_report.specs.Log.{numbered, standard_names, fact_text, facts
 ghost use Rattle.mg_report.specs.Values.{fact_of};
 
 use crate::asks::{push_ask, push_verdict};
+use mg_certs::Verdict;
 use mg_certtext::{push_bytes, push_number};
-use mg_derive::Derivation;
 use mg_lists::{List, NoMemory};
 use mg_present::Ask;
 use std::alloc::Global;
@@ -16,8 +16,8 @@ use std::alloc::Global;
 pub struct FactBlock<'a> {
     /// What is asked.
     pub ask: &'a Ask,
-    /// The derivation that settles it.
-    pub verdict: &'a Derivation,
+    /// The verdict that settles it.
+    pub verdict: &'a Verdict,
 }
 
 /// The text of these facts, numbered from 1, with generators named x1, x2 and so on.

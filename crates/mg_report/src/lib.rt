@@ -7,7 +7,7 @@ mod facts;
 mod log;
 mod refusals;
 
-pub use blocks::{QuestionBlock, SearchLine, report};
+pub use blocks::{QuestionBlock, SearchLine, SearchLines, report};
 pub use facts::{FactBlock, report_facts};
 pub use log::{EntryLine, Fate, SumLine, report_log};
 pub use mg_lists::NoMemory;

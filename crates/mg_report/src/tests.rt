@@ -4,6 +4,7 @@ ghost use Rattle.mg_present.specs.Ask.{IsReducedOver};
 ghost use Rattle.mg_present.specs.Presentation.{IsRelator};
 
 use super::*;
+use mg_certs::{Verdict, Yes};
 use mg_derive::{Derivation, Symbol};
 use mg_ledger::Account;
 use mg_lists::List;
@@ -66,7 +67,7 @@ fn report_one(
     alloc: Global,
     ask: &Ask,
     purse: u64,
-    verdict: Option<(u64, &Derivation)>,
+    verdict: Option<(u64, &Verdict)>,
     line: SearchLine,
 ) -> Result<Vec<u8>, NoMemory> {
     let mut names = List::new(alloc);
@@ -75,13 +76,14 @@ fn report_one(
         bytes.push(*name)?;
         names.push(bytes)?;
     }
-    let lines = [line];
+    let mut searches = List::new(alloc);
+    searches.push(line)?;
     let blocks = [QuestionBlock {
         name: b"q",
         names: names.as_slice(),
         ask,
         verdict,
-        searches: &lines,
+        searches,
     }];
     report(alloc, 100, purse, &blocks)
 }
@@ -97,6 +99,7 @@ fn a_settled_question(rt: HostRuntime) -> Result<(), Fail> {
         inverse: false,
     };
     let text = Derivation::from_symbols(rt.alloc(), &[sign, Symbol::Cut])?;
+    let verdict = Verdict::Yes(Yes::Derivation(text));
     let line = SearchLine {
         procedure: Procedure::Derive,
         account: Account {
@@ -107,7 +110,7 @@ fn a_settled_question(rt: HostRuntime) -> Result<(), Fail> {
         },
         end: End::Found,
     };
-    let printed = report_one(rt.alloc(), &ask, 79, Some((1, &text)), line)?;
+    let printed = report_one(rt.alloc(), &ask, 79, Some((1, &verdict)), line)?;
     assert_eq!(rt; printed.as_slice(), SETTLED);
     Ok(())
 }
@@ -149,9 +152,10 @@ fn a_fact_of_a_log(rt: HostRuntime) -> Result<(), Fail> {
         inverse: false,
     };
     let text = Derivation::from_symbols(rt.alloc(), &[sign, Symbol::Cut])?;
+    let verdict = Verdict::Yes(Yes::Derivation(text));
     let fact = FactBlock {
         ask: &ask,
-        verdict: &text,
+        verdict: &verdict,
     };
     let printed = report_facts(rt.alloc(), &[fact])?;
     assert_eq!(rt; printed.as_slice(), FACTS);

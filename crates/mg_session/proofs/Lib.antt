@@ -14,3 +14,13 @@ pub mod Refused
 pub mod Others
 pub mod Unbuilt
 pub mod Meanings
+pub mod Firsts
+pub mod Seen
+pub mod Moving
+pub mod Phasing
+pub mod Joining
+pub mod Weaving
+pub mod Looked
+pub mod Shown
+pub mod Logged
+pub mod Sessions

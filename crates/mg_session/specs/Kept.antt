@@ -1,8 +1,11 @@
 -- How a session in code keeps its searches.
 use Rattle.std.specs.Prelude.{◌≡◌, ℕ, ◌+◌, ◌^◌, ◌<◌, List, [], ◌∷◌, length}
+use Rattle.mg_core.specs.declared.entries.Entry.{Entry}
 use Rattle.mg_ledger.specs.declared.ledger.Account.{Account}
+use Rattle.mg_ledger.specs.Ledgers.{LedgerState}
+use Rattle.mg_certs.specs.Claim.{Fact}
 use Rattle.mg_search.specs.Search.{plain}
-use Rattle.mg_session.specs.State.{SearchState}
+use Rattle.mg_session.specs.State.{State, SearchState}
 use Rattle.mg_session.specs.declared.state.Kept.{Kept}
 
 -- a search with its number and the account of its cell
@@ -27,3 +30,12 @@ all_seen n searches cells = []
 pub record HaveCells (searches : List Kept) (cells : List Account) : Type 0 where
   pub each : length searches ≡ length cells
   pub few : length searches < 2 ^ 32
+
+-- the state that a session keeps in these
+abbrev pub state_of : LedgerState → List Kept → List (Entry Fact) → State
+state_of ledger searches log = record {
+  funded = ledger.funded;
+  purse = ledger.purse;
+  searches = all_seen 1 searches ledger.cells;
+  log = log;
+}

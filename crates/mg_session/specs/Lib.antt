@@ -9,3 +9,7 @@ pub mod Built
 pub mod Scripts
 pub mod Refusing
 pub mod Other
+pub mod At
+pub mod Parting
+pub mod Lookups
+pub mod Stepped

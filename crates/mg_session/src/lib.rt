@@ -2,9 +2,18 @@
 //! session of a script.
 #![tactic(auto)]
 
+mod blocks;
+mod entries;
+mod facts;
 mod laws;
-mod plan;
+mod lookups;
+mod moves;
+mod parts;
+mod phases;
+mod places;
+mod printing;
 mod script;
+mod session;
 mod state;
 
 pub use laws::{
@@ -14,5 +23,6 @@ pub use laws::{
     states_are_in_order, steps_lead_from_state_to_state, the_first_number_settles,
     units_balance_where_printed, verdicts_carry_certificates,
 };
-pub use plan::run_plan;
+pub use mg_core::NoMemory;
 pub use script::{SessionRefused, run_script};
+pub use session::run_plan;

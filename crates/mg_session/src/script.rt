@@ -6,7 +6,7 @@ ghost use Rattle.mg_session.specs.Refusing.{of_reading, of_resolving};
 ghost use Rattle.mg_session.specs.Other.{IsOther, IsOtherName};
 ghost use Rattle.mg_session.specs.declared.script.SessionRefused.TheVariants.{NoMemory as OutOfMemory};
 
-use crate::plan::run_plan;
+use crate::session::run_plan;
 use mg_lex::{Keyword, Refused, Text};
 use mg_names::{ResolveRefused, resolve};
 use mg_script::{ParseRefused, ScriptLine, parse};

@@ -41,11 +41,11 @@ pub(crate) struct Session {
 
 impl Model for Session {
     ghost use Rattle.mg_session.specs.State.{State};
-    ghost use Rattle.mg_session.specs.Kept.{all_seen, HaveCells};
+    ghost use Rattle.mg_session.specs.Kept.{state_of, HaveCells};
 
     ghost Value = { State };
 
-    ghost view = { λ s. record { funded = s.ledger.funded; purse = s.ledger.purse; searches = all_seen 1 s.searches.items s.ledger.cells; log = s.book } };
+    ghost view = { λ s. state_of s.ledger s.searches.items s.book };
 
     ghost invariant = { λ s. HaveCells s.searches.items s.ledger.cells };
 }

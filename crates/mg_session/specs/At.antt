@@ -1,0 +1,53 @@
+-- Searches by their places, from 0.
+use Rattle.std.specs.Prelude.{◌≡◌, ℕ, ◌+◌, ◌≤◌, ◌↔◌, Bool, true, false, Some, List, [], ◌∷◌, ◌++◌, length, slice_get, slice_set}
+use Rattle.std.specs.List.{AllByRecursion}
+use Rattle.mg_ledger.specs.declared.ledger.TheConstants.{MOST_GRANTED}
+use Rattle.mg_words.specs.declared.procedure.Procedure.{Procedure}
+use Rattle.mg_workers.specs.declared.held.End.{End}
+use Rattle.mg_workers.specs.Rows.{EachPair}
+use Rattle.mg_present.specs.Ask.{Inquiry}
+use Rattle.mg_names.specs.Plan.{Plan, AskOf}
+use Rattle.mg_search.specs.Search.{Search, Opens}
+use Rattle.mg_session.specs.State.{State, SearchState, IsOf}
+use Rattle.mg_session.specs.Run.{CanGoOn, TakesPart}
+use Rattle.mg_session.specs.Session.{IsAbsent, new_search}
+use Rattle.mg_session.specs.declared.state.Kept.{Kept}
+
+-- the search is the one of this question and procedure
+pub record IsKeptFor (question : ℕ) (procedure : Procedure) (kept : Kept) : Type 0 where
+  pub of_question : kept.question ≡ question
+  pub of_procedure : kept.search.procedure ≡ procedure
+
+-- the search of the question and procedure is at this place
+pub record IsAt (state : State) (question : ℕ) (procedure : Procedure) (place : ℕ) : Type 0 where
+  pub search : SearchState
+  pub there : slice_get state.searches place ≡ Some search
+  pub is_of : IsOf question procedure search
+
+-- a new state is the old one with another search at this place
+pub record Replaces (state : State) (place purse : ℕ) (search : SearchState) (after : State) : Type 0 where
+  pub after_is : after ≡ record state { purse = purse; searches = slice_set state.searches place search }
+
+-- a search that holds nothing is new
+abbrev pub with_new : ℕ → Search → State → State
+with_new question search state = record state { searches = state.searches ++ new_search question (length state.searches + 1) search 0 ∷ [] }
+
+-- the search of the question and procedure is at the place: it was there, or it is new and holds nothing
+pub data IsReady (plan : Plan) (question : ℕ) (procedure : Procedure) (old : State) (place : ℕ) (new : State) : Type 0 where
+  was_there : IsAt old question procedure place → new ≡ old → IsReady plan question procedure old place new
+  is_new : IsAbsent old question procedure → (ask : Inquiry) (search : Search) → AskOf plan question ask → Opens procedure ask search →
+      place ≡ length old.searches → new ≡ with_new question search old → IsReady plan question procedure old place new
+
+-- of a search with so many units, an Ask that is settled or not, and this end: it may run
+pub record MayRun (held : ℕ) (settled : Bool) (end : End) : Type 0 where
+  pub holds : 1 ≤ held
+  pub unsettled : settled ≡ false
+  pub can_go_on : CanGoOn end
+
+-- no search was granted more than a ledger counts
+abbrev pub AreCounted : State → Type 0
+AreCounted state = AllByRecursion (λ search. search.account.granted ≤ MOST_GRANTED) state.searches
+
+-- which searches take part in a run
+abbrev pub AreTaking : State → List Bool → Type 0
+AreTaking state runs = EachPair (λ search takes. (takes ≡ true) ↔ TakesPart state search) state.searches runs
