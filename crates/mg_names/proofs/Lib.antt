@@ -9,6 +9,7 @@ pub mod Refusals
 pub mod Plans
 pub mod Lengths
 pub mod Lookups
+pub mod NameKinds
 pub mod Pairs
 pub mod Parts
 pub mod Reading

@@ -1,6 +1,7 @@
 //! Plans: what a script asks for, once its names are resolved.
 #![tactic(auto)]
 
+mod checks;
 mod cursor;
 mod home;
 mod laws;
