@@ -14,3 +14,4 @@ pub mod Objects
 pub mod Reads
 pub mod Within
 pub mod Searches
+pub mod Keeping

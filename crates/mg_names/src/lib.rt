@@ -8,6 +8,7 @@ mod laws;
 mod least;
 mod limits;
 mod plan;
+mod resolver;
 mod resolving;
 mod scope;
 mod searches;
