@@ -15,3 +15,4 @@ pub mod Reads
 pub mod Within
 pub mod Searches
 pub mod Keeping
+pub mod Printing

@@ -3,6 +3,7 @@
 
 mod checks;
 mod cursor;
+mod granting;
 mod home;
 mod laws;
 mod least;
@@ -12,6 +13,7 @@ mod resolver;
 mod resolving;
 mod scope;
 mod searches;
+mod statements;
 mod words;
 
 pub use laws::{
