@@ -8,6 +8,7 @@ pub mod Leasts
 pub mod Refusals
 pub mod Plans
 pub mod Causes
+pub mod Grants
 pub mod Lengths
 pub mod Lookups
 pub mod NameKinds
