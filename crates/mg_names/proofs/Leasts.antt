@@ -1,12 +1,11 @@
 -- The least of some causes, and of more.
-use Rattle.std.proofs.Common.{◌≡◌, ℕ, ◌+◌, ◌<◌, ◌≤◌, ◌⊎◌, inl, inr, ⊎_elim, Option, Some, None, List, [], ◌∷◌, ◌++◌, Contains, refl, sym, ap, subst, ◌∙◌, append_assoc, append-nil, arith}
+use Rattle.std.proofs.Common.{◌≡◌, ℕ, ◌<◌, ◌≤◌, ◌⊎◌, inl, inr, ⊎_elim, Option, Some, List, [], ◌∷◌, ◌++◌, refl, sym, ap, subst, ◌∙◌, append_assoc, append-nil, arith}
 use Rattle.std.specs.List.{flat_map, AllByRecursion}
 use Rattle.std.proofs.lemmas.Bool.{cases_lt}
 use Rattle.std.proofs.lemmas.Grind.{flat_map-append}
 use Rattle.std.proofs.lemmas.List.Elements.{Contains-push, Contains-append_left}
-use Rattle.mg_lex.specs.declared.refusal.Cause.{Cause}
 use Rattle.mg_lex.specs.Cause.{cause_number}
-use Rattle.mg_names.specs.Cause.{Shown, at, IsFirst}
+use Rattle.mg_names.specs.Cause.{Shown, IsFirst}
 use Rattle.mg_names.specs.declared.least.Fault.{Fault}
 use Rattle.mg_names.specs.Least.{IsLeastOf, IsNotAfter, Gets, shown_of, least_of}
 
@@ -24,9 +23,9 @@ ordered : (a b c d : ℕ) → ((a < b) ⊎ ((a ≡ b) × (c ≤ d)) → ⊥) →
 ordered a b c d n =
     ⊎_elim (λ h. absurd (n (inl h)))
     (λ (h : b ≤ a). ⊎_elim (λ (k : b < a). inl k)
-      (λ (k : a ≤ b). let e : a ≡ b = omega arith in
-        ⊎_elim (λ (l : d < c). inr (sym e, omega arith)) (λ (l : c ≤ d). absurd (n (inr (e, l)))) (cases_lt d c))
-      (cases_lt b a))
+    (λ (k : a ≤ b). let e : a ≡ b = omega arith in
+    ⊎_elim (λ (l : d < c). inr (sym e, omega arith)) (λ (l : c ≤ d). absurd (n (inr (e, l)))) (cases_lt d c))
+    (cases_lt b a))
     (cases_lt a b)
 
 pub not_after-total : (s t : Shown) → (IsNotAfter s t → ⊥) → IsNotAfter t s

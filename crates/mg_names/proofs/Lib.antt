@@ -6,3 +6,4 @@ pub mod Tails
 pub mod Lengths
 pub mod Parts
 pub mod Signs
+pub mod Alone
