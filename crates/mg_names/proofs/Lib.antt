@@ -7,3 +7,4 @@ pub mod Lengths
 pub mod Parts
 pub mod Signs
 pub mod Alone
+pub mod Skips

@@ -106,3 +106,8 @@ alone_last bytes (t ∷ []) (x ∷ []) ss e same less h =
     ap is_alone (ap (λ (s : Sign). s ∷ []) (sym first) ∙ e)
 alone_last bytes (t ∷ []) (x ∷ y ∷ xs) ss e same less h = absurd (omega arith)
 alone_last bytes (t ∷ u ∷ ts) (x ∷ xs) ss e same less h = absurd (omega arith)
+
+pub signs_left : (bytes : List ℕ) (ts : List Token) (xs : List Lexeme) → length ts ≡ length xs → length ts ≡ length (signs_in bytes ts xs)
+signs_left bytes [] xs e = refl
+signs_left bytes (t ∷ ts) [] e = absurd (omega arith)
+signs_left bytes (t ∷ ts) (x ∷ xs) e = ap suc (signs_left bytes ts xs (omega arith))

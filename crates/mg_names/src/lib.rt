@@ -8,6 +8,7 @@ mod least;
 mod limits;
 mod resolving;
 mod scope;
+mod skipping;
 mod words;
 
 pub use laws::a_question_asks_once;
