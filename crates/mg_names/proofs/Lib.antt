@@ -7,6 +7,7 @@ pub mod Lines
 pub mod Leasts
 pub mod Refusals
 pub mod Plans
+pub mod Alone
 pub mod Causes
 pub mod Grants
 pub mod Lengths
@@ -16,4 +17,5 @@ pub mod Pairs
 pub mod Parts
 pub mod Reading
 pub mod Signs
+pub mod Skips
 pub mod Tails

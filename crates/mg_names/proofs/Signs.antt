@@ -1,8 +1,8 @@
 -- The signs of a line that is a statement are those of the statement.
 use Rattle.std.proofs.Common.{◌≡◌, ℕ, ◌+◌, true, false, Option, Some, None, List, [], ◌∷◌, ◌++◌, length, map, drop, refl, sym, ap, subst, ◌∙◌, append_assoc, append-nil, arith, length-drop}
-use Rattle.std.specs.List.{flat_map, AllByRecursion}
+use Rattle.std.specs.List.{flat_map, AllByRecursion, AllZip}
 use Rattle.mg_lex.specs.declared.token.Token.{Token}
-use Rattle.mg_lex.specs.Line.{Cuts, IsLongest, AreBlanks, token_bytes}
+use Rattle.mg_lex.specs.Line.{Cuts, IsLongest, AreBlanks, AreTokens, token_bytes}
 use Rattle.std.proofs.lemmas.Slice.Zip.{AllZip-long}
 use Rattle.mg_lex.specs.declared.keyword.Keyword.{Keyword}
 use Rattle.mg_lex.specs.declared.keyword.Keyword.TheVariants as keyword
@@ -201,8 +201,11 @@ cuts_inside : (line : List ℕ) (from : ℕ) (ts : List Token) (to : ℕ) → Cu
 cuts_inside line from [] to h = tt
 cuts_inside line from (t ∷ ts) to h = (token_inside line from t h.0 h.1, cuts_inside line (t.start + t.length) ts to h.2)
 
-pub kept_is_readable : (counts after : Counts) (number : ℕ) (line : List ℕ) (kept : ScriptLine) → IsKept counts number line kept after → IsReadable kept
-kept_is_readable counts after number line kept h = record {
-  inside = subst (λ (bytes : List ℕ). AllByRecursion (IsInside bytes) kept.tokens) (sym h.bytes) (cuts_inside line 0 kept.tokens h.tokens.end h.tokens.cut);
-  paired = sym (AllZip-long (IsLexemeOf line) kept.tokens kept.lexemes h.lexemes);
+pub tokens_are_readable : (line : List ℕ) (kept : ScriptLine) → kept.bytes ≡ line → AreTokens line kept.tokens → AllZip (IsLexemeOf line) kept.tokens kept.lexemes → IsReadable kept
+tokens_are_readable line kept e ts xs = record {
+  inside = subst (λ (bytes : List ℕ). AllByRecursion (IsInside bytes) kept.tokens) (sym e) (cuts_inside line 0 kept.tokens ts.end ts.cut);
+  paired = sym (AllZip-long (IsLexemeOf line) kept.tokens kept.lexemes xs);
 }
+
+pub kept_is_readable : (counts after : Counts) (number : ℕ) (line : List ℕ) (kept : ScriptLine) → IsKept counts number line kept after → IsReadable kept
+kept_is_readable counts after number line kept h = tokens_are_readable line kept h.bytes h.tokens h.lexemes

@@ -13,6 +13,7 @@ mod resolver;
 mod resolving;
 mod scope;
 mod searches;
+mod skipping;
 mod statements;
 mod words;
 
