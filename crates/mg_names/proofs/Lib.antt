@@ -10,12 +10,15 @@ pub mod Plans
 pub mod Alone
 pub mod Causes
 pub mod Grants
+pub mod Led
 pub mod Lengths
 pub mod Lookups
 pub mod NameKinds
 pub mod Pairs
 pub mod Parts
+pub mod Places
 pub mod Reading
+pub mod Readings
 pub mod Signs
 pub mod Skips
 pub mod Tails
