@@ -22,3 +22,4 @@ pub mod Readings
 pub mod Signs
 pub mod Skips
 pub mod Tails
+pub mod Tokens

@@ -3,6 +3,7 @@
 
 mod checks;
 mod cursor;
+mod declaring;
 mod granting;
 mod home;
 mod laws;
