@@ -9,8 +9,11 @@ pub mod Refusals
 pub mod Plans
 pub mod Lengths
 pub mod Lookups
+pub mod NameKinds
 pub mod Pairs
 pub mod Parts
 pub mod Reading
 pub mod Signs
 pub mod Tails
+pub mod Turns
+pub mod Askings

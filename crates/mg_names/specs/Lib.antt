@@ -14,3 +14,5 @@ pub mod Objects
 pub mod Reads
 pub mod Within
 pub mod Searches
+pub mod Turn
+pub mod Asked

@@ -17,6 +17,7 @@ use mg_words::{Letter, NoMemory, Word};
 use std::alloc::Global;
 
 /// The group in which words are read.
+#[derive(Drop)]
 pub(crate) struct Home<'a> {
     /// All names that are declared.
     pub(crate) names: &'a Names,
