@@ -17,3 +17,5 @@ pub mod Signs
 pub mod Tails
 pub mod Turns
 pub mod Askings
+pub mod Alone
+pub mod Skips

@@ -32,12 +32,12 @@ fn name_of<'a>(bytes: &'a [u8], token: Token) -> Name<'a>
     }
 }
 
-/// Whether a word may go on with this mark.
+/// Whether this mark stands in words outside their brackets.
 fn mark_goes_on(mark: Mark) -> bool
     ensures { result ≡ spec.mark_goes_on mark }
 {
     match mark {
-        Mark::Star | Mark::Caret | Mark::OpenRound | Mark::OpenSquare => true,
+        Mark::Star | Mark::Minus | Mark::Caret | Mark::OpenRound | Mark::OpenSquare => true,
         Mark::Less
         | Mark::Greater
         | Mark::Comma
@@ -47,7 +47,6 @@ fn mark_goes_on(mark: Mark) -> bool
         | Mark::CloseSquare
         | Mark::Colon
         | Mark::Semicolon
-        | Mark::Minus
         | Mark::Arrow => false,
     }
 }
@@ -62,8 +61,8 @@ fn is_name_lexeme(lexeme: Lexeme) -> bool
     }
 }
 
-/// Whether a word may go on with this lexeme.
-fn goes_on(lexeme: Lexeme) -> bool
+/// Whether this lexeme stands in words outside their brackets.
+pub(crate) fn goes_on(lexeme: Lexeme) -> bool
     ensures { result ≡ spec.goes_on lexeme }
 {
     match lexeme {
@@ -115,6 +114,13 @@ impl<'a> Cursor<'a> {
             tokens: line.tokens.as_slice(),
             lexemes: line.lexemes.as_slice(),
         }
+    }
+
+    /// How many tokens there are still.
+    pub(crate) fn left(&self) -> usize
+        ensures { result ≡ length self.now }
+    {
+        self.tokens.len()
     }
 
     /// What comes next.

@@ -13,6 +13,7 @@ mod plan;
 mod resolving;
 mod scope;
 mod searches;
+mod skipping;
 mod words;
 
 pub use laws::{
