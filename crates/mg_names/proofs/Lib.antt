@@ -7,6 +7,7 @@ pub mod Lines
 pub mod Leasts
 pub mod Refusals
 pub mod Plans
+pub mod Causes
 pub mod Lengths
 pub mod Lookups
 pub mod NameKinds

@@ -16,3 +16,5 @@ pub mod Within
 pub mod Searches
 pub mod Turn
 pub mod Asked
+pub mod Keeping
+pub mod Printing

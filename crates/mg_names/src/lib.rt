@@ -4,16 +4,19 @@
 mod asking;
 mod checks;
 mod cursor;
+mod granting;
 mod home;
 mod known;
 mod laws;
 mod least;
 mod limits;
 mod plan;
+mod resolver;
 mod resolving;
 mod scope;
 mod searches;
 mod skipping;
+mod statements;
 mod words;
 
 pub use laws::{
