@@ -18,7 +18,7 @@ use Rattle.mg_names.specs.Meaning.{group_at, held, value, value_in, Asking, prop
 use Rattle.mg_names.specs.Cause.{Shown, not_a_group, not_a_subgroup, not_a_map, of_group, of_subgroup, of_source, in_word, not_the_subject, in_question}
 use Rattle.mg_names.specs.Least.{Gets}
 use Rattle.mg_names.specs.Turn.{is_one}
-use Rattle.mg_names.specs.Asked.{IsKnown, IsHome, IsSameAsking, IsAnswer, IsQuestionRead}
+use Rattle.mg_names.specs.Asked.{IsKnown, AreWithin, IsHome, IsSameAsking, IsAnswer, IsQuestionRead}
 use Rattle.mg_names.specs.Within.{IsPlanGroup, IsGroupAt, HasWords, HasImages, IsScope}
 use Rattle.mg_names.proofs.Leasts.{gets_both, gets_nil}
 use Rattle.mg_names.proofs.Members.{all_get}
@@ -30,41 +30,45 @@ get_within [] i x e = absurd cc
 get_within (a ∷ xs) zero x e = omega arith
 get_within (a ∷ xs) (suc i) x e = let h = get_within xs i x e in omega (arith, h)
 
--- a group that is known is there
-abbrev pub IsThere : Known → ℕ → Type 0
-IsThere known place = (scope : Scope) × (group : PlanGroup) × IsKnown scope known × IsGroupAt scope.plan place group
+get_there : {X : Type 0} (xs : List X) (i : ℕ) → i < length xs → (x : X) × (slice_get xs i ≡ Some x)
+get_there [] i h = absurd (omega (arith, h))
+get_there (a ∷ xs) zero h = (a, refl)
+get_there (a ∷ xs) (suc i) h = get_there xs i (omega (arith, h))
 
-pub place_within : (known : Known) (place : ℕ) → IsThere known place → place < length known.groups.now
-place_within known place h = get_within known.groups.now place h.1 (ap (λ (gs : List PlanGroup). slice_get gs place) h.2.groups ∙ h.3)
-
-pub few_generators : (scope : Scope) (known : Known) (place : ℕ) (group : PlanGroup) → IsKnown scope known → IsGroupAt scope.plan place group → length (group_at scope place).generators ≤ 64
-few_generators scope known place group is there =
-    let given = all_get IsPlanGroup scope.plan.groups place group is.within.groups there in
-    let e : length (group_at scope place).generators ≡ length group.generators = ap (λ (g : PlanGroup). length g.generators) (group_is scope place group there) in
+pub few_generators : (known : Known) (place : ℕ) → AreWithin known → place < length known.groups.now → (generators : List (List ℕ)) → ((scope : Scope) → IsKnown scope known → generators ≡ (group_at scope place).generators) → length generators ≤ 64
+few_generators known place h less generators same =
+    let found = get_there known.groups.now place less in
+    let there : slice_get h.scope.plan.groups place ≡ Some found.0 = ap (λ (gs : List PlanGroup). slice_get gs place) (sym h.is.groups) ∙ found.1 in
+    let given = all_get IsPlanGroup h.scope.plan.groups place found.0 h.within.groups there in
+    let e : length generators ≡ length found.0.generators = ap length (same h.scope h.is) ∙ ap (λ (g : PlanGroup). length g.generators) (group_is h.scope place found.0 there) in
     omega (arith, e, given.named, given.presented.generators)
+
+place_within : (known : Known) (h : AreWithin known) (place : ℕ) (group : PlanGroup) → IsGroupAt h.scope.plan place group → place < length known.groups.now
+place_within known h place group there = get_within known.groups.now place group (ap (λ (gs : List PlanGroup). slice_get gs place) h.is.groups ∙ there)
 
 in_scope : (scope : Scope) (known : Known) (text : List ℕ) (o : Object) → IsKnown scope known → lookup known.names.now text ≡ Some o → lookup scope.names text ≡ Some o
 in_scope scope known text o is e = ap (λ (ds : List Declared). lookup ds text) (sym is.names) ∙ e
 
-pub group_there : (known : Known) (text : List ℕ) (place : ℕ) → ((scope : Scope) × IsKnown scope known) → lookup known.names.now text ≡ Some (a_group place) → IsThere known place
-group_there known text place h e =
-    let g = name_object h.1.lines h.0 h.1.within text (a_group place) (in_scope h.0 known text (a_group place) h.1 e) in
-    (h.0, g.0, h.1, g.1)
+module _ (known : Known) (h : AreWithin known) (text : List ℕ) where
+  pub group_there : (place : ℕ) → lookup known.names.now text ≡ Some (a_group place) → place < length known.groups.now
+  group_there place e =
+      let g = name_object h.lines h.scope h.within text (a_group place) (in_scope h.scope known text (a_group place) h.is e) in
+      place_within known h place g.0 g.1
 
-pub subgroup_there : (known : Known) (text : List ℕ) (place : ℕ) (words : List (List ℤ)) → ((scope : Scope) × IsKnown scope known) → lookup known.names.now text ≡ Some (a_subgroup place words) → IsThere known place
-subgroup_there known text place words h e =
-    let g : HasWords h.0.plan place words = name_object h.1.lines h.0 h.1.within text (a_subgroup place words) (in_scope h.0 known text (a_subgroup place words) h.1 e) in
-    (h.0, g.group, h.1, g.there)
+  pub subgroup_there : (place : ℕ) (words : List (List ℤ)) → lookup known.names.now text ≡ Some (a_subgroup place words) → place < length known.groups.now
+  subgroup_there place words e =
+      let g : HasWords h.scope.plan place words = name_object h.lines h.scope h.within text (a_subgroup place words) (in_scope h.scope known text (a_subgroup place words) h.is e) in
+      place_within known h place g.group g.there
 
-pub source_there : (known : Known) (text : List ℕ) (source target : ℕ) (images : List (List ℤ)) → ((scope : Scope) × IsKnown scope known) → lookup known.names.now text ≡ Some (a_map source target images) → IsThere known source
-source_there known text source target images h e =
-    let g : HasImages h.0.plan source target images = name_object h.1.lines h.0 h.1.within text (a_map source target images) (in_scope h.0 known text (a_map source target images) h.1 e) in
-    (h.0, g.from, h.1, g.from_there)
+  pub source_there : (source target : ℕ) (images : List (List ℤ)) → lookup known.names.now text ≡ Some (a_map source target images) → source < length known.groups.now
+  source_there source target images e =
+      let g : HasImages h.scope.plan source target images = name_object h.lines h.scope h.within text (a_map source target images) (in_scope h.scope known text (a_map source target images) h.is e) in
+      place_within known h source g.from g.from_there
 
-pub target_there : (known : Known) (text : List ℕ) (source target : ℕ) (images : List (List ℤ)) → ((scope : Scope) × IsKnown scope known) → lookup known.names.now text ≡ Some (a_map source target images) → IsThere known target
-target_there known text source target images h e =
-    let g : HasImages h.0.plan source target images = name_object h.1.lines h.0 h.1.within text (a_map source target images) (in_scope h.0 known text (a_map source target images) h.1 e) in
-    (h.0, g.to, h.1, g.to_there)
+  pub target_there : (source target : ℕ) (images : List (List ℤ)) → lookup known.names.now text ≡ Some (a_map source target images) → target < length known.groups.now
+  target_there source target images e =
+      let g : HasImages h.scope.plan source target images = name_object h.lines h.scope h.within text (a_map source target images) (in_scope h.scope known text (a_map source target images) h.is e) in
+      place_within known h target g.to g.to_there
 
 -- names that stand for something else ask nothing
 outside_group : (scope : Scope) (f : ℕ → List (List ℕ) → List Shown) (found : Option Object) → ((k : ℕ) → found ≢ Some (a_group k)) → of_group scope f found ≡ []

@@ -200,21 +200,21 @@ ends_of xs ys m n ss e f =
         sym (last_behind xs (a_name m) (a_name m)) ∙ (ap (last_sign (a_name m)) (sym e ∙ f) ∙ last_behind ys (a_name m) (a_name n)) in
     cc
 
-pub equality_ends : (u v : Word) (g : Named) → question_signs (equal u v g) ≡ (word_signs u ++ the_mark mark.Equals ∷ (word_signs v ++ the_keyword keyword.In ∷ [])) ++ a_name g ∷ []
-equality_ends u v g = simp append_assoc
-
-pub membership_ends : (w : Word) (h : Named) → question_signs (member w h) ≡ (word_signs w ++ the_keyword keyword.In ∷ []) ++ a_name h ∷ []
-membership_ends w h = simp append_assoc
-
-pub kernel_ends : (w : Word) (f : Named) → question_signs (vanishes w f) ≡ (word_signs w ++ the_keyword keyword.In ∷ the_keyword keyword.Kernel ∷ []) ++ a_name f ∷ []
-kernel_ends w f = simp append_assoc
-
-pub centrality_ends : (w : Word) (g : Named) → question_signs (central w g) ≡ (word_signs w ++ the_keyword keyword.Central ∷ the_keyword keyword.In ∷ []) ++ a_name g ∷ []
-centrality_ends w g = simp append_assoc
-
 -- what is read at the end is the name there
 abbrev pub EndsWith : List Sign → Named → Type 0
 EndsWith ss n = (front : List Sign) × (ss ≡ front ++ a_name n ∷ [])
+
+pub equality_end : (u v : Word) (g : Named) → EndsWith (question_signs (equal u v g)) g
+equality_end u v g = (word_signs u ++ the_mark mark.Equals ∷ (word_signs v ++ the_keyword keyword.In ∷ []), simp append_assoc)
+
+pub membership_end : (w : Word) (h : Named) → EndsWith (question_signs (member w h)) h
+membership_end w h = (word_signs w ++ the_keyword keyword.In ∷ [], simp append_assoc)
+
+pub kernel_end : (w : Word) (f : Named) → EndsWith (question_signs (vanishes w f)) f
+kernel_end w f = (word_signs w ++ the_keyword keyword.In ∷ the_keyword keyword.Kernel ∷ [], simp append_assoc)
+
+pub centrality_end : (w : Word) (g : Named) → EndsWith (question_signs (central w g)) g
+centrality_end w g = (word_signs w ++ the_keyword keyword.Central ∷ the_keyword keyword.In ∷ [], simp append_assoc)
 
 pub same_end : (ss : List Sign) (m n : Named) (q : List Sign) → EndsWith ss m → ss ≡ q → EndsWith q n → m ≡ n
 same_end ss m n q h e k = ends_of h.0 k.0 m n ss h.1 (e ∙ k.1)

@@ -16,10 +16,15 @@ use Rattle.mg_names.specs.Within.{IsScope, IsSizedQuestion}
 
 -- the names and the groups of a scope
 pub record IsKnown (scope : Scope) (known : Known) : Type 0 where
-  pub lines : ℕ
-  pub within : IsScope lines scope
   pub names : known.names.now ≡ scope.names
   pub groups : known.groups.now ≡ scope.plan.groups
+
+-- they are those of a scope in which all is within bounds
+pub record AreWithin (known : Known) : Type 0 where
+  pub scope : Scope
+  pub lines : ℕ
+  pub is : IsKnown scope known
+  pub within : IsScope lines scope
 
 -- the group at a place, where words are read
 pub record IsHome (scope : Scope) (place : ℕ) (home : Home) : Type 0 where

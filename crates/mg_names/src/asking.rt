@@ -3,7 +3,7 @@
 ghost use Rattle.std.specs.Prelude.{◌≡◌, ◌∷◌, [], ℕ, IfOk, List as ListOf};
 ghost use Rattle.mg_script.specs.Statement.{property_keyword};
 ghost use Rattle.mg_script.specs.declared.form.Property.{Property as PropertyOf};
-ghost use Rattle.mg_names.specs.Asked.{IsKnown, IsQuestionAhead, IsQuestionRead, form_of};
+ghost use Rattle.mg_names.specs.Asked.{AreWithin, IsKnown, IsQuestionAhead, IsQuestionRead, form_of};
 ghost use Rattle.mg_names.specs.Name.{named_of};
 ghost use Rattle.mg_names.specs.Named.{Named, Word as WordTree, Question as QuestionTree, equal, member, vanishes, central, has};
 ghost use Rattle.mg_names.specs.Scope.{Scope};
@@ -67,7 +67,7 @@ fn form_next(cursor: &Cursor) -> Form
 /// Reads the question that an `ask` names. There is none where its last name stands for something else
 /// than is needed.
 pub(crate) fn read_question(alloc: Global, cursor: &mut Cursor, known: &Known, found: &mut Found) -> Result<Option<Asking>, NoMemory>
-    requires known { (scope : Scope) × IsKnown scope known.now }
+    requires known { AreWithin known.now }
     requires ahead { IsQuestionAhead cursor.old }
     ensures { (scope : Scope) (q : QuestionTree) → IsKnown scope known.now → cursor.old ≡ question_signs q →
         IfOk result (λ a. IsQuestionRead scope q found.old found.new a) }
@@ -83,7 +83,7 @@ pub(crate) fn read_question(alloc: Global, cursor: &mut Cursor, known: &Known, f
 
 /// Reads whether two words are equal, or a word is one.
 fn equality(alloc: Global, cursor: &mut Cursor, known: &Known, found: &mut Found) -> Result<Option<Asking>, NoMemory>
-    requires known { (scope : Scope) × IsKnown scope known.now }
+    requires known { AreWithin known.now }
     requires ahead { (u v : WordTree) × (g : Named) × (cursor.old ≡ question_signs (equal u v g)) × IsSizedQuestion (equal u v g) }
     ensures { (scope : Scope) (u v : WordTree) (g : Named) → IsKnown scope known.now → cursor.old ≡ question_signs (equal u v g) →
         IfOk result (λ a. IsQuestionRead scope (equal u v g) found.old found.new a) }
@@ -97,7 +97,7 @@ fn equality(alloc: Global, cursor: &mut Cursor, known: &Known, found: &mut Found
     cursor.skip();
     let is_one = cursor.is_one_alone();
     let right = word(alloc, cursor, &home, found)?;
-    let group = known.group(place).group.copy(alloc)?;
+    let group = known.presentation(alloc, place)?;
     if is_one {
         let question = Question::WordIsOne { group, word: left };
         return Ok(Some(Asking {
@@ -114,7 +114,7 @@ fn equality(alloc: Global, cursor: &mut Cursor, known: &Known, found: &mut Found
 
 /// Reads whether a word lies in a subgroup.
 fn membership(alloc: Global, cursor: &mut Cursor, known: &Known, found: &mut Found) -> Result<Option<Asking>, NoMemory>
-    requires known { (scope : Scope) × IsKnown scope known.now }
+    requires known { AreWithin known.now }
     requires ahead { (w : WordTree) × (h : Named) × (cursor.old ≡ question_signs (member w h)) × IsSizedQuestion (member w h) }
     ensures { (scope : Scope) (w : WordTree) (h : Named) → IsKnown scope known.now → cursor.old ≡ question_signs (member w h) →
         IfOk result (λ a. IsQuestionRead scope (member w h) found.old found.new a) }
@@ -125,7 +125,7 @@ fn membership(alloc: Global, cursor: &mut Cursor, known: &Known, found: &mut Fou
     };
     let home = known.home(subgroup.group);
     let word = word(alloc, cursor, &home, found)?;
-    let group = known.group(subgroup.group).group.copy(alloc)?;
+    let group = known.presentation(alloc, subgroup.group)?;
     let words = subgroup.words.copy(alloc)?;
     let question = Question::InSubgroup {
         group,
@@ -140,7 +140,7 @@ fn membership(alloc: Global, cursor: &mut Cursor, known: &Known, found: &mut Fou
 
 /// Reads whether the image of a word is one.
 fn in_kernel(alloc: Global, cursor: &mut Cursor, known: &Known, found: &mut Found) -> Result<Option<Asking>, NoMemory>
-    requires known { (scope : Scope) × IsKnown scope known.now }
+    requires known { AreWithin known.now }
     requires ahead { (w : WordTree) × (f : Named) × (cursor.old ≡ question_signs (vanishes w f)) × IsSizedQuestion (vanishes w f) }
     ensures { (scope : Scope) (w : WordTree) (f : Named) → IsKnown scope known.now → cursor.old ≡ question_signs (vanishes w f) →
         IfOk result (λ a. IsQuestionRead scope (vanishes w f) found.old found.new a) }
@@ -151,7 +151,7 @@ fn in_kernel(alloc: Global, cursor: &mut Cursor, known: &Known, found: &mut Foun
     };
     let home = known.home(mapping.source);
     let word = word(alloc, cursor, &home, found)?;
-    let target = known.group(mapping.target).group.copy(alloc)?;
+    let target = known.presentation(alloc, mapping.target)?;
     let map = mapping.map.copy(alloc)?;
     let question = Question::InKernel { target, map, word };
     Ok(Some(Asking {
@@ -162,7 +162,7 @@ fn in_kernel(alloc: Global, cursor: &mut Cursor, known: &Known, found: &mut Foun
 
 /// Reads whether a word commutes with every element.
 fn centrality(alloc: Global, cursor: &mut Cursor, known: &Known, found: &mut Found) -> Result<Option<Asking>, NoMemory>
-    requires known { (scope : Scope) × IsKnown scope known.now }
+    requires known { AreWithin known.now }
     requires ahead { (w : WordTree) × (g : Named) × (cursor.old ≡ question_signs (central w g)) × IsSizedQuestion (central w g) }
     ensures { (scope : Scope) (w : WordTree) (g : Named) → IsKnown scope known.now → cursor.old ≡ question_signs (central w g) →
         IfOk result (λ a. IsQuestionRead scope (central w g) found.old found.new a) }
@@ -173,7 +173,7 @@ fn centrality(alloc: Global, cursor: &mut Cursor, known: &Known, found: &mut Fou
     };
     let home = known.home(place);
     let word = word(alloc, cursor, &home, found)?;
-    let group = known.group(place).group.copy(alloc)?;
+    let group = known.presentation(alloc, place)?;
     let question = Question::Central { group, word };
     Ok(Some(Asking {
         group: place,
@@ -183,7 +183,7 @@ fn centrality(alloc: Global, cursor: &mut Cursor, known: &Known, found: &mut Fou
 
 /// Reads whether what a name stands for has a property.
 fn property(alloc: Global, cursor: &mut Cursor, known: &Known, found: &mut Found) -> Result<Option<Asking>, NoMemory>
-    requires known { (scope : Scope) × IsKnown scope known.now }
+    requires known { AreWithin known.now }
     requires ahead { (n : Named) × (p : PropertyOf) × (cursor.old ≡ question_signs (has n p)) }
     ensures { (scope : Scope) (n : Named) (p : PropertyOf) → IsKnown scope known.now → cursor.old ≡ question_signs (has n p) →
         IfOk result (λ a. IsQuestionRead scope (has n p) found.old found.new a) }
@@ -219,14 +219,14 @@ fn property_next(cursor: &Cursor) -> Property
 
 /// Whether a group has one element alone.
 fn trivial(alloc: Global, name: Name, known: &Known, found: &mut Found) -> Result<Option<Asking>, NoMemory>
-    requires known { (scope : Scope) × IsKnown scope known.now }
+    requires known { AreWithin known.now }
     ensures { (scope : Scope) → IsKnown scope known.now →
         IfOk result (λ a. IsQuestionRead scope (has (named_of name.entry) Property.Trivial) found.old found.new a) }
 {
     let Some(place) = known.names.group(name, found) else {
         return Ok(None);
     };
-    let group = known.group(place).group.copy(alloc)?;
+    let group = known.presentation(alloc, place)?;
     let question = Question::Trivial { group };
     Ok(Some(Asking {
         group: place,
@@ -236,14 +236,14 @@ fn trivial(alloc: Global, name: Name, known: &Known, found: &mut Found) -> Resul
 
 /// Whether all elements of a group commute.
 fn abelian(alloc: Global, name: Name, known: &Known, found: &mut Found) -> Result<Option<Asking>, NoMemory>
-    requires known { (scope : Scope) × IsKnown scope known.now }
+    requires known { AreWithin known.now }
     ensures { (scope : Scope) → IsKnown scope known.now →
         IfOk result (λ a. IsQuestionRead scope (has (named_of name.entry) Property.Abelian) found.old found.new a) }
 {
     let Some(place) = known.names.group(name, found) else {
         return Ok(None);
     };
-    let group = known.group(place).group.copy(alloc)?;
+    let group = known.presentation(alloc, place)?;
     let question = Question::Abelian { group };
     Ok(Some(Asking {
         group: place,
@@ -253,14 +253,14 @@ fn abelian(alloc: Global, name: Name, known: &Known, found: &mut Found) -> Resul
 
 /// Whether a subgroup is normal.
 fn normal(alloc: Global, name: Name, known: &Known, found: &mut Found) -> Result<Option<Asking>, NoMemory>
-    requires known { (scope : Scope) × IsKnown scope known.now }
+    requires known { AreWithin known.now }
     ensures { (scope : Scope) → IsKnown scope known.now →
         IfOk result (λ a. IsQuestionRead scope (has (named_of name.entry) Property.Normal) found.old found.new a) }
 {
     let Some(subgroup) = known.names.subgroup(name, found) else {
         return Ok(None);
     };
-    let group = known.group(subgroup.group).group.copy(alloc)?;
+    let group = known.presentation(alloc, subgroup.group)?;
     let words = subgroup.words.copy(alloc)?;
     let question = Question::Normal {
         group,
@@ -274,15 +274,15 @@ fn normal(alloc: Global, name: Name, known: &Known, found: &mut Found) -> Result
 
 /// Whether a map extends to a homomorphism.
 fn extends(alloc: Global, name: Name, known: &Known, found: &mut Found) -> Result<Option<Asking>, NoMemory>
-    requires known { (scope : Scope) × IsKnown scope known.now }
+    requires known { AreWithin known.now }
     ensures { (scope : Scope) → IsKnown scope known.now →
         IfOk result (λ a. IsQuestionRead scope (has (named_of name.entry) Property.Extends) found.old found.new a) }
 {
     let Some(mapping) = known.names.mapping(name, found) else {
         return Ok(None);
     };
-    let source = known.group(mapping.source).group.copy(alloc)?;
-    let target = known.group(mapping.target).group.copy(alloc)?;
+    let source = known.presentation(alloc, mapping.source)?;
+    let target = known.presentation(alloc, mapping.target)?;
     let map = mapping.map.copy(alloc)?;
     let question = Question::Extends {
         source,
@@ -297,14 +297,14 @@ fn extends(alloc: Global, name: Name, known: &Known, found: &mut Found) -> Resul
 
 /// Whether the images of a map generate its target.
 fn onto(alloc: Global, name: Name, known: &Known, found: &mut Found) -> Result<Option<Asking>, NoMemory>
-    requires known { (scope : Scope) × IsKnown scope known.now }
+    requires known { AreWithin known.now }
     ensures { (scope : Scope) → IsKnown scope known.now →
         IfOk result (λ a. IsQuestionRead scope (has (named_of name.entry) Property.Onto) found.old found.new a) }
 {
     let Some(mapping) = known.names.mapping(name, found) else {
         return Ok(None);
     };
-    let target = known.group(mapping.target).group.copy(alloc)?;
+    let target = known.presentation(alloc, mapping.target)?;
     let map = mapping.map.copy(alloc)?;
     let question = Question::Onto { target, map };
     Ok(Some(Asking {
