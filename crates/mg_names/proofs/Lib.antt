@@ -8,6 +8,7 @@ pub mod Leasts
 pub mod Refusals
 pub mod Plans
 pub mod Alone
+pub mod Askings
 pub mod Causes
 pub mod Grants
 pub mod Led
@@ -23,3 +24,4 @@ pub mod Signs
 pub mod Skips
 pub mod Tails
 pub mod Tokens
+pub mod Turns

@@ -1,12 +1,14 @@
 //! Plans: what a script asks for, once its names are resolved.
 #![tactic(auto)]
 
+mod asking;
 mod checks;
 mod cursor;
 mod declaring;
 mod granting;
 mod grouping;
 mod home;
+mod known;
 mod laws;
 mod least;
 mod limits;
