@@ -1,12 +1,11 @@
 -- The least of some causes, and of more.
-use Rattle.std.proofs.Common.{◌≡◌, ℕ, ◌+◌, ◌<◌, ◌≤◌, ◌⊎◌, inl, inr, ⊎_elim, Option, Some, None, List, [], ◌∷◌, ◌++◌, Contains, refl, sym, ap, subst, ◌∙◌, append_assoc, append-nil, arith}
+use Rattle.std.proofs.Common.{◌≡◌, ℕ, ◌<◌, ◌≤◌, ◌⊎◌, inl, inr, ⊎_elim, Option, None, Some, List, [], ◌∷◌, ◌++◌, Contains, refl, sym, ap, subst, ◌∙◌, append_assoc, append-nil, arith, zero, suc, length, get_or}
 use Rattle.std.specs.List.{flat_map, AllByRecursion}
 use Rattle.std.proofs.lemmas.Bool.{cases_lt}
 use Rattle.std.proofs.lemmas.Grind.{flat_map-append}
-use Rattle.std.proofs.lemmas.List.Elements.{Contains-push, Contains-append_left}
-use Rattle.mg_lex.specs.declared.refusal.Cause.{Cause}
+use Rattle.std.proofs.lemmas.List.Elements.{Contains-push, Contains-append_left, Contains-append_right, Contains-append_cases}
 use Rattle.mg_lex.specs.Cause.{cause_number}
-use Rattle.mg_names.specs.Cause.{Shown, at, IsFirst}
+use Rattle.mg_names.specs.Cause.{Shown, IsFirst}
 use Rattle.mg_names.specs.declared.least.Fault.{Fault}
 use Rattle.mg_names.specs.Least.{IsLeastOf, IsNotAfter, Gets, shown_of, least_of}
 
@@ -24,9 +23,9 @@ ordered : (a b c d : ℕ) → ((a < b) ⊎ ((a ≡ b) × (c ≤ d)) → ⊥) →
 ordered a b c d n =
     ⊎_elim (λ h. absurd (n (inl h)))
     (λ (h : b ≤ a). ⊎_elim (λ (k : b < a). inl k)
-      (λ (k : a ≤ b). let e : a ≡ b = omega arith in
-        ⊎_elim (λ (l : d < c). inr (sym e, omega arith)) (λ (l : c ≤ d). absurd (n (inr (e, l)))) (cases_lt d c))
-      (cases_lt b a))
+    (λ (k : a ≤ b). let e : a ≡ b = omega arith in
+    ⊎_elim (λ (l : d < c). inr (sym e, omega arith)) (λ (l : c ≤ d). absurd (n (inr (e, l)))) (cases_lt d c))
+    (cases_lt b a))
     (cases_lt a b)
 
 pub not_after-total : (s t : Shown) → (IsNotAfter s t → ⊥) → IsNotAfter t s
@@ -83,3 +82,79 @@ gets_more f a b o p q g h =
 
 pub gets_one : {X : Type 0} (f : X → List Shown) (x : X) (o p : Option Shown) → Gets (f x) o p → Gets (flat_map f (x ∷ [])) o p
 gets_one f x o p g = subst (λ (xs : List Shown). Gets xs o p) (sym (append-nil (f x))) g
+
+-- the least of causes depends on which they are alone
+all_at : (s : Shown) (xs : List Shown) (k : ℕ) (y : Shown) → AllAfter s xs → k < length xs → IsNotAfter s (get_or xs k y)
+all_at s [] k y h l = absurd (omega arith)
+all_at s (x ∷ xs) zero y h l = h.0
+all_at s (x ∷ xs) (suc k) y h l = all_at s xs k y h.1 (omega arith)
+
+all_from : (P : Shown → Type 0) (ys : List Shown) → ((y : Shown) → Contains ys y → P y) → AllByRecursion P ys
+all_from P [] f = tt
+all_from P (y ∷ ys) f =
+    (f y (0, omega arith, refl), all_from P ys (λ z c. f z (Contains-append_right (y ∷ []) ys z c)))
+
+not_among : (s : Shown) → Contains [] s → ⊥
+not_among s c = let l = c.1 in omega arith
+
+pub same_least_of : (xs ys : List Shown) (o : Option Shown) → ((s : Shown) → Contains xs s → Contains ys s) → ((s : Shown) → Contains ys s → Contains xs s) → IsLeastOf xs o → IsLeastOf ys o
+same_least_of xs [] None f g h = refl
+same_least_of xs (y ∷ ys) None f g h =
+    absurd (not_among y (subst (λ (zs : List Shown). Contains zs y) h (g y (0, omega arith, refl))))
+same_least_of xs ys (Some s) f g h = record {
+  among = f s h.among;
+  least = all_from (IsNotAfter s) ys (λ y c.
+      let there = g y c in subst (λ (z : Shown). IsNotAfter s z) there.2 (all_at s xs there.0 y h.least there.1));
+}
+
+in_either : (a b c : List Shown) (s : Shown) → ((t : Shown) → Contains b t → Contains c t) → Contains (a ++ b) s → Contains (a ++ c) s
+in_either a b c s f h =
+    ⊎_elim (λ (k : Contains a s). Contains-append_left a c s k) (λ (k : Contains b s). Contains-append_right a c s (f s k)) (Contains-append_cases a b s h)
+
+pub gets_as : (a b : List Shown) (o p : Option Shown) → ((s : Shown) → Contains a s → Contains b s) → ((s : Shown) → Contains b s → Contains a s) → Gets a o p → Gets b o p
+gets_as a b o p f g h all k = same_least_of (all ++ a) (all ++ b) p (λ s. in_either all a b s f) (λ s. in_either all b a s g) (h all k)
+
+turned : (a b : List Shown) (s : Shown) → Contains (a ++ b) s → Contains (b ++ a) s
+turned a b s h =
+    ⊎_elim (λ (k : Contains a s). Contains-append_right b a s k) (λ (k : Contains b s). Contains-append_left b a s k) (Contains-append_cases a b s h)
+
+pub gets_turned : (a b : List Shown) (o p : Option Shown) → Gets (a ++ b) o p → Gets (b ++ a) o p
+gets_turned a b o p = gets_as (a ++ b) (b ++ a) o p (turned a b) (turned b a)
+
+-- the causes of the left sides and of the right sides, found side by side
+module _ {X : Type 0} (f g : X → List Shown) where
+  abbrev pub both : X → List Shown
+  both x = f x ++ g x
+
+  apart : (xs : List X) (s : Shown) → Contains (flat_map both xs) s → Contains (flat_map f xs ++ flat_map g xs) s
+  apart [] s h = h
+  apart (x ∷ xs) s h =
+      ⊎_elim (λ (k : Contains (f x ++ g x) s).
+      ⊎_elim (λ (l : Contains (f x) s). Contains-append_left (f x ++ flat_map f xs) (g x ++ flat_map g xs) s (Contains-append_left (f x) (flat_map f xs) s l))
+      (λ (l : Contains (g x) s). Contains-append_right (f x ++ flat_map f xs) (g x ++ flat_map g xs) s (Contains-append_left (g x) (flat_map g xs) s l))
+      (Contains-append_cases (f x) (g x) s k))
+      (λ (k : Contains (flat_map both xs) s).
+      ⊎_elim (λ (l : Contains (flat_map f xs) s). Contains-append_left (f x ++ flat_map f xs) (g x ++ flat_map g xs) s (Contains-append_right (f x) (flat_map f xs) s l))
+      (λ (l : Contains (flat_map g xs) s). Contains-append_right (f x ++ flat_map f xs) (g x ++ flat_map g xs) s (Contains-append_right (g x) (flat_map g xs) s l))
+      (Contains-append_cases (flat_map f xs) (flat_map g xs) s (apart xs s k)))
+      (Contains-append_cases (f x ++ g x) (flat_map both xs) s h)
+
+  lefts_in : (xs : List X) (s : Shown) → Contains (flat_map f xs) s → Contains (flat_map both xs) s
+  lefts_in [] s h = h
+  lefts_in (x ∷ xs) s h =
+      ⊎_elim (λ (k : Contains (f x) s). Contains-append_left (f x ++ g x) (flat_map both xs) s (Contains-append_left (f x) (g x) s k))
+      (λ (k : Contains (flat_map f xs) s). Contains-append_right (f x ++ g x) (flat_map both xs) s (lefts_in xs s k))
+      (Contains-append_cases (f x) (flat_map f xs) s h)
+
+  rights_in : (xs : List X) (s : Shown) → Contains (flat_map g xs) s → Contains (flat_map both xs) s
+  rights_in [] s h = h
+  rights_in (x ∷ xs) s h =
+      ⊎_elim (λ (k : Contains (g x) s). Contains-append_left (f x ++ g x) (flat_map both xs) s (Contains-append_right (f x) (g x) s k))
+      (λ (k : Contains (flat_map g xs) s). Contains-append_right (f x ++ g x) (flat_map both xs) s (rights_in xs s k))
+      (Contains-append_cases (g x) (flat_map g xs) s h)
+
+  together : (xs : List X) (s : Shown) → Contains (flat_map f xs ++ flat_map g xs) s → Contains (flat_map both xs) s
+  together xs s h = ⊎_elim (lefts_in xs s) (rights_in xs s) (Contains-append_cases (flat_map f xs) (flat_map g xs) s h)
+
+  pub gets_apart : (xs : List X) (o p : Option Shown) → Gets (flat_map both xs) o p → Gets (flat_map f xs ++ flat_map g xs) o p
+  gets_apart xs o p = gets_as (flat_map both xs) (flat_map f xs ++ flat_map g xs) o p (apart xs) (together xs)

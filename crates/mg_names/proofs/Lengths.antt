@@ -1,12 +1,10 @@
 -- How long words are, written out, and over which generators they are.
-use Rattle.std.proofs.Common.{◌≡◌, ◌≢◌, ℕ, zero, suc, ◌+◌, ◌*◌, ◌<◌, ◌≤◌, ℤ, pos, negsuc, neg_ℤ, nat_abs, Bool, true, false, Option, Some, None, IfSome, if◌then◌else◌, List, [], ◌∷◌, ◌++◌, length, map, reverse, refl, sym, ap, subst, ◌∙◌, append_assoc, append-nil, arith, length-append}
-use Rattle.std.specs.List.{AllByRecursion}
-use Rattle.mg_terms.specs.Event.{Event, AreWithin, IsWithin, base_events, factor_events, word_events, base_end, factor_end, word_end}
+use Rattle.std.proofs.Common.{◌≡◌, ℕ, zero, suc, ◌+◌, ◌*◌, ◌<◌, ◌≤◌, ℤ, nat_abs, Bool, true, false, Option, Some, None, IfSome, if◌then◌else◌, List, [], ◌∷◌, ◌++◌, length, refl, ap, ◌∙◌, arith, length-append}
+use Rattle.mg_terms.specs.Event.{Event, AreWithin, base_events, factor_events, word_events}
 use Rattle.mg_terms.specs.Word.{base_letters, factor_letters, word_letters}
-use Rattle.mg_words.specs.Letter.{IsLetterOf}
-use Rattle.mg_words.specs.Word.{inv, power_of, commutator_of, IsOver}
+use Rattle.mg_words.specs.Word.{power_of, commutator_of, IsOver}
 use Rattle.mg_words.proofs.Chains.{length-inv, length-power_of, IsOver-append, IsOver-power_of, IsOver-commutator_of}
-use Rattle.mg_names.specs.Named.{Named, Base, named, one, round, commutator, Factor, bare, power, Word, single, times, plain_base, plain_factor, plain_word}
+use Rattle.mg_names.specs.Named.{Base, named, one, round, commutator, Factor, bare, power, Word, single, times, plain_base, plain_factor, plain_word}
 use Rattle.mg_names.specs.Scope.{same_text, generator_place, next_place}
 use Rattle.mg_names.specs.Meaning.{signed, letter_at, base_written, factor_written, written}
 use Rattle.mg_names.specs.Reads.{BaseFits, FactorFits, WordFits}
@@ -63,9 +61,10 @@ mutual
   base_fits k d (named n) h = tt
   base_fits k d one h = tt
   base_fits k d (round w) h = word_fits (k + 1) (d + 1) w (left_of (word_events (k + 1) (d + 1) (plain_word w)) _ h.1)
-  base_fits k d (commutator u v) h =
-      (word_fits (k + 1) (d + 1) u (left_of (word_events (k + 1) (d + 1) (plain_word u)) _ h.1),
-        word_fits _ (d + 1) v (left_of (word_events _ (d + 1) (plain_word v)) _ (right_of (word_events (k + 1) (d + 1) (plain_word u)) _ h.1)))
+  base_fits k d (commutator u v) h = (
+    word_fits (k + 1) (d + 1) u (left_of (word_events (k + 1) (d + 1) (plain_word u)) _ h.1),
+    word_fits _ (d + 1) v (left_of (word_events _ (d + 1) (plain_word v)) _ (right_of (word_events (k + 1) (d + 1) (plain_word u)) _ h.1)),
+  )
 
   factor_fits : (k d : ℕ) (f : Factor) → AreWithin (factor_events k d (plain_factor f)) → FactorFits f
   factor_fits k d (bare b) h = base_fits k d b h
@@ -74,9 +73,10 @@ mutual
 
   pub word_fits : (k d : ℕ) (w : Word) → AreWithin (word_events k d (plain_word w)) → WordFits w
   word_fits k d (single f) h = factor_fits k d f (left_of (factor_events k d (plain_factor f)) _ h)
-  word_fits k d (times w star f) h =
-      (word_fits k d w (left_of (word_events k d (plain_word w)) _ h),
-        factor_fits _ d f (left_of (factor_events _ d (plain_factor f)) _ (right_of (word_events k d (plain_word w)) _ h)))
+  word_fits k d (times w star f) h = (
+    word_fits k d w (left_of (word_events k d (plain_word w)) _ h),
+    factor_fits _ d f (left_of (factor_events _ d (plain_factor f)) _ (right_of (word_events k d (plain_word w)) _ h)),
+  )
 
 -- words are over the generators that name their letters
 abbrev IsBelow : ℕ → Option ℕ → Type 0

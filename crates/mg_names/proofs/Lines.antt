@@ -5,7 +5,7 @@ use Rattle.std.specs.List.{AllByRecursion, AllZip}
 use Rattle.std.proofs.lemmas.List.{length-append, length-map}
 use Rattle.std.proofs.lemmas.List.Elements.{filter-append}
 use Rattle.std.proofs.lemmas.Slice.Zip.{AllZip-long}
-use Rattle.mg_lex.specs.declared.limits.TheConstants.{NUMBER_LIMIT}
+use Rattle.mg_lex.specs.declared.limits.TheConstants.{LINE_LIMIT, NUMBER_LIMIT}
 use Rattle.mg_lex.specs.declared.mark.Mark.TheVariants as mark
 use Rattle.mg_lex.specs.declared.token.Token.{Token}
 use Rattle.mg_lex.specs.Line.{IsWithinLimits}
@@ -26,6 +26,7 @@ use Rattle.mg_names.specs.Named.{Word, Relation, relator, equation, Arrow, Quest
 use Rattle.mg_names.specs.Meaning.{relations_in}
 use Rattle.mg_names.specs.Within.{IsSizedWord, IsSizedRelation, IsSizedQuestion, IsSizedGroup, AreSizedWords, IsSized, IsReadLine}
 use Rattle.mg_names.proofs.Members.{all_left, all_right, all_more, all_unmap}
+use Rattle.mg_names.proofs.Signs.{kept_is_readable}
 use Rattle.mg_names.proofs.Trees.{there_is_one}
 
 -- numbers in a line are not too large
@@ -168,6 +169,8 @@ kept_is_read counts number line kept after h =
     record {
       statement = s;
       is_named = one.1;
+      readable = kept_is_readable (counted_anew counts) after number line kept h;
+      places = all_more (IsWithinLimits line) (λ (t : Token). t.start < LINE_LIMIT) (λ t w. w.begins) kept.tokens h.tokens.within_limits;
       sized = statement_sized counts after s (subst (λ (g : grammar.Statement). Adds (statement_pieces g) (counted_anew counts) after) (sym same) h.adds) h.within
           (subst (λ (g : grammar.Statement). AllByRecursion IsBounded (statement_pieces g)) (sym same) h.bounded) (subst (λ (xs : List Lexeme). AllByRecursion IsSmall xs) (sym one.1.written) small);
     }

@@ -1,22 +1,23 @@
 -- Reading factors and bases.
-use Rattle.std.proofs.Common.{◌≡◌, ◌≢◌, ℕ, zero, suc, ◌+◌, ◌*◌, ◌<◌, ◌≤◌, ◌==◌, ℤ, pos, neg_ℤ, Bool, true, false, Result, Ok, Err, IfOk, Option, Some, None, List, [], ◌∷◌, ◌++◌, length, drop, refl, sym, ap, subst, ◌∙◌, append_assoc, append-nil, arith}
+use Rattle.std.proofs.Common.{◌≡◌, ◌≢◌, ℕ, zero, suc, ◌*◌, ◌≤◌, ◌==◌, ℤ, Bool, true, false, Result, Ok, Err, IfOk, Option, Some, List, [], ◌∷◌, ◌++◌, length, drop, refl, sym, ap, subst, ◌∙◌, append_assoc, arith}
 use Rattle.std.proofs.lemmas.List.{nil_from_length}
 use Rattle.std.proofs.lemmas.Bool.Decides.{Decides-eqb}
 use Rattle.mg_lex.specs.declared.mark.Mark.TheVariants as mark
 use Rattle.mg_terms.specs.declared.lexeme.Lexeme.{Lexeme}
 use Rattle.mg_terms.specs.declared.lexeme.Lexeme.TheVariants as lexeme
 use Rattle.mg_terms.specs.Word.{base_letters}
-use Rattle.mg_words.specs.Word.{Held, times as repeated, inv, power_of, commutator_of}
+use Rattle.mg_words.specs.Word.{Held, times as repeated, power_of, commutator_of}
+use Rattle.mg_words.specs.declared.operations.WordFault.{WordFault}
 use Rattle.mg_words.specs.declared.operations.TheConstants.{MOST_POWER_LETTERS}
 use Rattle.mg_names.specs.declared.home.Home.{Home}
 use Rattle.mg_names.specs.declared.words.Exponent.{Exponent}
-use Rattle.mg_names.specs.Named.{Named, Base, named, one, round, commutator, Factor, bare, power, Word, single, times, base_names, factor_names, word_names, plain_base}
+use Rattle.mg_names.specs.Named.{Named, Base, named, one, round, commutator, Factor, bare, power, Word, base_names, factor_names, word_names, plain_base}
 use Rattle.mg_names.specs.Cause.{Shown, not_a_letter}
 use Rattle.mg_names.specs.Meaning.{signed, letter_at, base_written, factor_written, written}
 use Rattle.mg_names.specs.Scope.{generator_place}
 use Rattle.mg_names.specs.Sign.{Sign, a_name, the_mark, the_number, minus_signs, first_lexeme, Stops, base_signs, factor_signs, word_signs}
 use Rattle.mg_names.specs.Least.{Gets}
-use Rattle.mg_names.specs.Reads.{IsRead, in_names, BaseFits, FactorFits, StartsWithoutCaret}
+use Rattle.mg_names.specs.Reads.{IsRead, BaseFits, FactorFits, IsNotTooLong, StartsWithoutCaret}
 use Rattle.mg_names.proofs.Leasts.{gets_none, gets_one, gets_more}
 use Rattle.mg_names.proofs.Tails.{base_first, base_begins}
 use Rattle.mg_names.proofs.Lengths.{base_length}
@@ -29,6 +30,16 @@ ok_more (Err e) f h = tt
 abbrev pub ReadsBase : Home → List Sign → Option Shown → Held → List Sign → Option Shown → Type 0
 ReadsBase home old before word left after =
     (b : Base) (rest : List Sign) → old ≡ base_signs b ++ rest → IsRead home (base_names b) (base_written home.generators.now b) rest before word left after
+
+-- what a base brings, and that it doesn't fail, as facts about a base and what stands behind it
+abbrev pub BaseIsRead : Home → Option Shown → Held → List Sign → Option Shown → Base → List Sign → Type 0
+BaseIsRead home before word left after b rest = IsRead home (base_names b) (base_written home.generators.now b) rest before word left after
+
+abbrev pub BaseRead : Home → Option Shown → Result Held WordFault → List Sign → Option Shown → Base → List Sign → Type 0
+BaseRead home before r left after b rest = IfOk r (λ v. BaseIsRead home before v left after b rest)
+
+abbrev pub BaseNotLong : Result Held WordFault → Base → List Sign → Type 0
+BaseNotLong r b rest = BaseFits b → IsNotTooLong r
 
 -- what stands behind the base of a power
 abbrev pub behind_base : Bool → ℕ → List Sign → List Sign
@@ -74,7 +85,7 @@ module _ (home : Home) (old : List Sign) (before : Option Shown) (root : Held) (
         let after_it = raises negative n rest (skip ∙ ap (drop 1) first.rest_is) in
         let size : exponent.size ≡ n = ap (λ (x : Exponent). x.size) after_it.0 in
         let short : length root.letters ≤ base_letters (plain_base b) =
-            subst (λ (xs : List ℤ). length xs ≤ base_letters (plain_base b)) (sym first.letters_are) (base_length home.generators.now b) in
+        subst (λ (xs : List ℤ). length xs ≤ base_letters (plain_base b)) (sym first.letters_are) (base_length home.generators.now b) in
         fits (bounded (length root.letters) (base_letters (plain_base b)) exponent.size n MOST_POWER_LETTERS short size k.1)
       where
         bounded : (x y m k most : ℕ) → x ≤ y → m ≡ k → y * k ≤ most → x * m ≤ most

@@ -1,5 +1,5 @@
 -- Reading the signs of a line one after another.
-use Rattle.std.proofs.Common.{◌≡◌, ◌≢◌, ℕ, zero, suc, ◌+◌, ◌-◌, ◌<◌, ◌≤◌, Bool, true, false, not, Option, Some, None, List, [], ◌∷◌, ◌++◌, length, get_or, drop, refl, sym, ap, subst, ◌∙◌, arith}
+use Rattle.std.proofs.Common.{◌≡◌, ◌≢◌, ℕ, zero, suc, ◌+◌, ◌-◌, ◌<◌, ◌≤◌, true, false, not, Some, None, List, [], ◌∷◌, ◌++◌, length, get_or, refl, sym, ap, subst, ◌∙◌, arith}
 use Rattle.mg_lex.specs.declared.token.Token.{Token}
 use Rattle.mg_lex.specs.Line.{token_bytes}
 use Rattle.mg_terms.specs.declared.lexeme.Lexeme.{Lexeme}
@@ -106,3 +106,8 @@ alone_last bytes (t ∷ []) (x ∷ []) ss e same less h =
     ap is_alone (ap (λ (s : Sign). s ∷ []) (sym first) ∙ e)
 alone_last bytes (t ∷ []) (x ∷ y ∷ xs) ss e same less h = absurd (omega arith)
 alone_last bytes (t ∷ u ∷ ts) (x ∷ xs) ss e same less h = absurd (omega arith)
+
+pub signs_left : (bytes : List ℕ) (ts : List Token) (xs : List Lexeme) → length ts ≡ length xs → length ts ≡ length (signs_in bytes ts xs)
+signs_left bytes [] xs e = refl
+signs_left bytes (t ∷ ts) [] e = absurd (omega arith)
+signs_left bytes (t ∷ ts) (x ∷ xs) e = ap suc (signs_left bytes ts xs (omega arith))

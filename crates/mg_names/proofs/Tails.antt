@@ -1,11 +1,11 @@
 -- A word as its first factor and those behind it.
-use Rattle.std.proofs.Common.{◌≡◌, ◌≢◌, ℕ, ℤ, Bool, true, false, Option, Some, None, List, [], ◌∷◌, ◌++◌, drop, refl, sym, ap, subst, ◌∙◌, append_assoc, append-nil}
+use Rattle.std.proofs.Common.{◌≡◌, ◌≢◌, ℤ, Bool, true, false, Option, Some, List, [], ◌∷◌, ◌++◌, drop, refl, sym, ap, subst, ◌∙◌, append_assoc, append-nil}
 use Rattle.mg_lex.specs.declared.mark.Mark.TheVariants as mark
 use Rattle.mg_terms.specs.declared.lexeme.Lexeme.{Lexeme}
 use Rattle.mg_terms.specs.declared.lexeme.Lexeme.TheVariants as lexeme
 use Rattle.mg_words.specs.Word.{Held}
 use Rattle.mg_names.specs.declared.home.Home.{Home}
-use Rattle.mg_names.specs.Named.{Named, Base, named, one, round, commutator, Factor, bare, power, Word, single, times, factor_names, word_names}
+use Rattle.mg_names.specs.Named.{Base, named, one, round, commutator, Factor, bare, power, Word, single, times, factor_names, word_names}
 use Rattle.mg_names.specs.Cause.{Shown, not_a_letter}
 use Rattle.mg_names.specs.Meaning.{factor_written, written}
 use Rattle.mg_names.specs.Sign.{Sign, sign_lexeme, first_lexeme, goes_on, Stops, star_signs, base_signs, factor_signs, word_signs}
@@ -76,7 +76,7 @@ base_goes_on one = refl
 base_goes_on (round w) = refl
 base_goes_on (commutator u v) = refl
 
-factor_goes_on : (f : Factor) → goes_on (factor_first f) ≡ true
+pub factor_goes_on : (f : Factor) → goes_on (factor_first f) ≡ true
 factor_goes_on (bare b) = base_goes_on b
 factor_goes_on (power b negative n) = base_goes_on b
 

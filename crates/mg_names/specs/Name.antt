@@ -1,5 +1,4 @@
 -- The name that a reader lends, as a name of the line.
-use Rattle.std.specs.Prelude.{ℕ}
 use Rattle.mg_names.specs.declared.cursor.Name.{Name}
 use Rattle.mg_names.specs.Named.{Named}
 

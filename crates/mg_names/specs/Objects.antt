@@ -1,5 +1,5 @@
 -- What the objects of the program stand for.
-use Rattle.std.specs.Prelude.{◌≡◌, ℕ, List, [], ◌∷◌, map, Vec}
+use Rattle.std.specs.Prelude.{ℕ, List, map, Vec}
 use Rattle.std.specs.declared.alloc.Global.{Global}
 use Rattle.mg_names.specs.declared.scope.Object.{Object}
 use Rattle.mg_names.specs.declared.scope.Object.TheVariants as declared

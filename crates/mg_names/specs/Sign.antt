@@ -1,5 +1,5 @@
 -- What is read of a line: its names with their places, and its other lexemes.
-use Rattle.std.specs.Prelude.{◌≡◌, ℕ, ◌+◌, ◌≤◌, Bool, true, false, not, Option, Some, None, List, [], ◌∷◌, ◌++◌, length, map}
+use Rattle.std.specs.Prelude.{◌≡◌, ℕ, ◌+◌, ◌-◌, ◌≤◌, Bool, true, false, not, Option, Some, None, List, [], ◌∷◌, ◌++◌, length, map}
 use Rattle.std.specs.List.{AllByRecursion}
 use Rattle.mg_lex.specs.declared.keyword.Keyword.{Keyword}
 use Rattle.mg_lex.specs.declared.keyword.Keyword.TheVariants as keyword
@@ -149,9 +149,10 @@ statement_signs (run bound) = the_keyword keyword.Run ∷ bound_signs bound
 statement_signs (cancel n p) = the_keyword keyword.Cancel ∷ a_name n ∷ the_keyword (procedure_keyword p) ∷ []
 statement_signs (report what) = the_keyword keyword.Report ∷ printed_signs what
 
--- a mark or a lexeme with which a word may go on
+-- a mark or a lexeme that stands in a word outside its brackets
 abbrev pub mark_goes_on : Mark → Bool
 mark_goes_on mark.Star = true
+mark_goes_on mark.Minus = true
 mark_goes_on mark.Caret = true
 mark_goes_on mark.OpenRound = true
 mark_goes_on mark.OpenSquare = true
@@ -163,7 +164,7 @@ goes_on (lexeme.Number n) = true
 goes_on (lexeme.Mark m) = mark_goes_on m
 goes_on _ = false
 
--- no word goes on with what stands here
+-- what stands here is no part of a word
 abbrev pub Stops : List Sign → Type 0
 Stops [] = Unit {0}
 Stops (s ∷ ss) = goes_on (sign_lexeme s) ≡ false
@@ -174,3 +175,20 @@ is_alone [] = false
 is_alone (a_name n ∷ []) = true
 is_alone (a_name n ∷ s ∷ ss) = not (goes_on (sign_lexeme s))
 is_alone (a_lexeme x ∷ ss) = false
+
+-- how many brackets are open behind a mark or a lexeme
+abbrev pub mark_behind : ℕ → Mark → ℕ
+mark_behind n mark.OpenRound = n + 1
+mark_behind n mark.OpenSquare = n + 1
+mark_behind n mark.CloseRound = n - 1
+mark_behind n mark.CloseSquare = n - 1
+mark_behind n _ = n
+
+abbrev pub depth_behind : ℕ → Lexeme → ℕ
+depth_behind n (lexeme.Mark m) = mark_behind n m
+depth_behind n _ = n
+
+-- what stands behind the first
+abbrev pub tail_of : List Sign → List Sign
+tail_of [] = []
+tail_of (s ∷ ss) = ss

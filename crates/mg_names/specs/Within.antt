@@ -1,7 +1,7 @@
 -- What holds of all that statements declare, and of statements that are within the limits of scripts.
-use Rattle.std.specs.Prelude.{◌≡◌, ℕ, ℤ, ◌≤◌, Some, None, IfSome, List, length, slice_get}
+use Rattle.std.specs.Prelude.{◌≡◌, ℕ, ℤ, ◌<◌, ◌≤◌, Some, None, IfSome, List, length, slice_get}
 use Rattle.std.specs.List.{AllByRecursion, AllZip}
-use Rattle.mg_lex.specs.declared.limits.TheConstants.{NUMBER_LIMIT}
+use Rattle.mg_lex.specs.declared.limits.TheConstants.{LINE_LIMIT, NUMBER_LIMIT}
 use Rattle.mg_present.specs.declared.presentation.TheConstants.{MOST_GENERATORS, MOST_RELATORS}
 use Rattle.mg_present.specs.declared.ask.TheConstants.{MOST_SUBGROUP_WORDS}
 use Rattle.mg_present.specs.Presentation.{IsPresented}
@@ -17,6 +17,7 @@ use Rattle.mg_names.specs.IsPlan.{IsStep, GrantsOneOf}
 use Rattle.mg_names.specs.Named.{Word, Relation, relator, equation, Arrow, Question, equal, member, vanishes, central, has, Statement, group, word, subgroup, mapping, ask, fund, grant, run, cancel, report, plain_word, IsNamed}
 use Rattle.mg_names.specs.Scope.{Object, a_group, a_word, a_subgroup, a_map, a_question, Scope}
 use Rattle.mg_names.specs.Meaning.{ask_for, relations_in}
+use Rattle.mg_names.specs.Sign.{IsReadable}
 
 -- a group of a plan, with a name for each generator
 pub record IsPlanGroup (g : PlanGroup) : Type 0 where
@@ -117,4 +118,6 @@ IsSized (report what) = Unit {0}
 pub record IsReadLine (line : ScriptLine) : Type 0 where
   pub statement : Statement
   pub is_named : IsNamed line statement
+  pub readable : IsReadable line
+  pub places : AllByRecursion (λ t. t.start < LINE_LIMIT) line.tokens
   pub sized : IsSized statement

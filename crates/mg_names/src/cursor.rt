@@ -4,6 +4,8 @@ ghost use Rattle.std.specs.Prelude.{◌≡◌, ◌≢◌, ◌↔◌, ◌-◌, �
 ghost use Rattle.mg_lex.specs.Line.{token_bytes};
 ghost use Rattle.mg_names.specs.Name.{named_of};
 ghost use Rattle.mg_names.specs.Sign as spec;
+ghost use Rattle.mg_names.specs.Turn as turns;
+ghost use Rattle.mg_names.specs.Turn.{turn, is_before_turn, IsOneAhead};
 ghost use Rattle.mg_names.specs.Sign.{Sign, a_name, the_number, signs_of, first_lexeme, is_alone, IsInside, IsReadable, StartsWithName, EndsWithName, Stops};
 
 use mg_lex::{Keyword, Mark, Token};
@@ -30,12 +32,12 @@ fn name_of<'a>(bytes: &'a [u8], token: Token) -> Name<'a>
     }
 }
 
-/// Whether a word may go on with this mark.
+/// Whether this mark stands in words outside their brackets.
 fn mark_goes_on(mark: Mark) -> bool
     ensures { result ≡ spec.mark_goes_on mark }
 {
     match mark {
-        Mark::Star | Mark::Caret | Mark::OpenRound | Mark::OpenSquare => true,
+        Mark::Star | Mark::Minus | Mark::Caret | Mark::OpenRound | Mark::OpenSquare => true,
         Mark::Less
         | Mark::Greater
         | Mark::Comma
@@ -45,7 +47,6 @@ fn mark_goes_on(mark: Mark) -> bool
         | Mark::CloseSquare
         | Mark::Colon
         | Mark::Semicolon
-        | Mark::Minus
         | Mark::Arrow => false,
     }
 }
@@ -60,14 +61,25 @@ fn is_name_lexeme(lexeme: Lexeme) -> bool
     }
 }
 
-/// Whether a word may go on with this lexeme.
-fn goes_on(lexeme: Lexeme) -> bool
+/// Whether this lexeme stands in words outside their brackets.
+pub(crate) fn goes_on(lexeme: Lexeme) -> bool
     ensures { result ≡ spec.goes_on lexeme }
 {
     match lexeme {
         Lexeme::Name | Lexeme::Number(_) => true,
         Lexeme::Mark(mark) => mark_goes_on(mark),
         Lexeme::Keyword(_) | Lexeme::RelatorSign => false,
+    }
+}
+
+/// Whether the words on the left of a question end before this lexeme.
+fn is_turn(lexeme: Lexeme) -> bool
+    ensures { result ≡ turns.is_turn lexeme }
+{
+    match lexeme {
+        Lexeme::Keyword(_) => true,
+        Lexeme::Mark(mark) => mark == Mark::Equals,
+        Lexeme::Name | Lexeme::Number(_) | Lexeme::RelatorSign => false,
     }
 }
 
@@ -102,6 +114,13 @@ impl<'a> Cursor<'a> {
             tokens: line.tokens.as_slice(),
             lexemes: line.lexemes.as_slice(),
         }
+    }
+
+    /// How many tokens there are still.
+    pub(crate) fn left(&self) -> usize
+        ensures { result ≡ length self.now }
+    {
+        self.tokens.len()
     }
 
     /// What comes next.
@@ -225,6 +244,63 @@ impl<'a> Cursor<'a> {
             [_, next, ..] => !goes_on(*next),
             _ => true,
         }
+    }
+
+    /// Whether the number 1 comes next.
+    fn is_one(&self) -> bool
+        ensures { IsTrue result ↔ (first_lexeme self.now ≡ Some (Lexeme.Number 1)) }
+    {
+        match self.lexeme() {
+            Some(Lexeme::Number(number)) => number == 1,
+            _ => false,
+        }
+    }
+
+    /// Whether the number 1 comes next, and no word goes on behind it.
+    pub(crate) fn is_one_alone(&self) -> bool
+        ensures one { IsTrue result → IsOneAhead self.now }
+        ensures other { IsFalse result → IsOneAhead self.now → ⊥ }
+    {
+        if !self.is_one() {
+            return false;
+        }
+        let mut rest = self.again();
+        rest.skip();
+        !rest.goes_on()
+    }
+
+    /// The same, to look ahead with.
+    fn again(&self) -> Cursor<'a>
+        ensures { result ≡ self.now }
+    {
+        Cursor {
+            bytes: self.bytes,
+            tokens: self.tokens,
+            lexemes: self.lexemes,
+        }
+    }
+
+    /// Whether something comes next that may be part of a word.
+    fn is_before_turn(&self) -> bool
+        ensures before { result ≡ is_before_turn self.now }
+        ensures some { IsTrue result → 1 ≤ length self.now }
+    {
+        match self.lexeme() {
+            Some(lexeme) => !is_turn(lexeme),
+            None => false,
+        }
+    }
+
+    /// What stands from the first keyword or equality sign on.
+    #[tactic(auto, using(crate::proofs::Turns::turn_here, crate::proofs::Turns::turn_later))]
+    pub(crate) fn turn(&self) -> Cursor<'a>
+        ensures { result ≡ turn self.now }
+    {
+        let mut rest = self.again();
+        while rest.is_before_turn() {
+            rest.skip();
+        }
+        rest
     }
 
     /// The name that the line ends with.

@@ -17,6 +17,7 @@ use mg_words::{Letter, NoMemory, Word};
 use std::alloc::Global;
 
 /// The group in which words are read.
+#[derive(Drop)]
 pub(crate) struct Home<'a> {
     /// All names that are declared.
     pub(crate) names: &'a Names,
@@ -67,7 +68,12 @@ impl<'a> Home<'a> {
     }
 
     /// The letter that a name in a word stands for. A name that is no generator stands for none.
-    pub(crate) fn letter(&self, alloc: Global, name: Name, found: &mut Found) -> Result<Word, NoMemory>
+    pub(crate) fn letter(
+        &self,
+        alloc: Global,
+        name: Name,
+        found: &mut Found,
+    ) -> Result<Word, NoMemory>
         ensures letters { IfOk result (λ w. w.letters ≡ letter_at (generator_place self.now.generators.now name.entry.text.now)) }
         ensures causes { Gets (not_a_letter self.now.names.now self.now.generators.now (named_of name.entry)) found.old found.new }
     {
@@ -81,7 +87,12 @@ impl<'a> Home<'a> {
     }
 
     /// What a name alone stands for: a generator, or a declared word of the group.
-    pub(crate) fn name_alone(&self, alloc: Global, name: Name, found: &mut Found) -> Result<Word, NoMemory>
+    pub(crate) fn name_alone(
+        &self,
+        alloc: Global,
+        name: Name,
+        found: &mut Found,
+    ) -> Result<Word, NoMemory>
         ensures letters { IfOk result (λ w. w.letters ≡
             name_value self.now.place (lookup self.now.names.now name.entry.text.now) (generator_place self.now.generators.now name.entry.text.now)) }
         ensures causes { Gets (no_word self.now.place (named_of name.entry) (lookup self.now.names.now name.entry.text.now)

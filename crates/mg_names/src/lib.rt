@@ -1,15 +1,25 @@
 //! Plans: what a script asks for, once its names are resolved.
 #![tactic(auto)]
 
+mod asking;
+mod checks;
 mod cursor;
+mod declaring;
+mod granting;
+mod grouping;
 mod home;
+mod known;
 mod laws;
 mod least;
 mod limits;
+mod mapping;
 mod plan;
+mod resolver;
 mod resolving;
 mod scope;
 mod searches;
+mod skipping;
+mod statements;
 mod words;
 
 pub use laws::{

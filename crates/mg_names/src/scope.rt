@@ -20,11 +20,21 @@ use std::marker::Model;
 pub(crate) enum Object {
     Group(u32),
     /// A word of the group.
-    Word { group: u32, word: Word },
+    Word {
+        group: u32,
+        word: Word,
+    },
     /// The words that generate a subgroup of the group.
-    Subgroup { group: u32, words: Words },
+    Subgroup {
+        group: u32,
+        words: Words,
+    },
     /// A map from the generators of one group to words of another.
-    Map { source: u32, target: u32, map: GenMap },
+    Map {
+        source: u32,
+        target: u32,
+        map: GenMap,
+    },
     Question(u32),
 }
 
@@ -37,14 +47,9 @@ impl Object {
         ensures other { IfNone result ((n : Named) → no_word place n (Some (object_of self.now)) None ≡ at Cause.WrongKind n.place) }
     {
         match self {
-            Object::Word { group, word } => {
-                if *group == place {
-                    Some(word)
-                } else {
-                    None
-                }
-            }
-            Object::Group(_) | Object::Subgroup { .. } | Object::Map { .. } | Object::Question(_) => None,
+            Object::Word { group, word } => { if *group == place { Some(word) } else { None } }
+            Object::Group(_) | Object::Subgroup { .. } | Object::Map { .. } | Object::Question(_) =>
+                None,
         }
     }
 }
@@ -83,7 +88,12 @@ impl Names {
     }
 
     /// Declares a name, which isn't declared yet.
-    pub(crate) fn declare(&mut self, alloc: Global, text: &[u8], object: Object) -> Result<(), NoMemory>
+    pub(crate) fn declare(
+        &mut self,
+        alloc: Global,
+        text: &[u8],
+        object: Object,
+    ) -> Result<(), NoMemory>
         requires { lookup self.old text.now ≡ None }
         ensures ok { OnOk result (self.new ≡ self.old ++ record { name = text.now; object = object_of object } ∷ []) }
         ensures err { OnErr result (self.new ≡ self.old) }

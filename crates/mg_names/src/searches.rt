@@ -55,7 +55,6 @@ impl Searches {
     }
 
     /// Makes room for one more question.
-    #[tactic(auto, using(crate::proofs::Pairs::one_question_more))]
     pub(crate) fn add_question(&mut self) -> Result<(), NoMemory>
         ensures { (ss : ListOf (ℕ × ProcedureOf)) (n : ℕ) → Holds ss n self.old → OnOk result (Holds ss (n + 1) self.new) }
     {
@@ -85,7 +84,7 @@ impl Searches {
     }
 
     /// Names a pair that isn't named.
-    #[tactic(auto, using(crate::proofs::Pairs::added, crate::proofs::Pairs::few_of))]
+    #[tactic(auto, using(crate::proofs::Pairs::few_of))]
     pub(crate) fn add(&mut self, question: u32, procedure: Procedure)
         requires { (ss : ListOf (ℕ × ProcedureOf)) × (n : ℕ) × Holds ss n self.old × (question < n) × (length ss < MOST_SEARCHES) }
         ensures { (ss : ListOf (ℕ × ProcedureOf)) (n : ℕ) → Holds ss n self.old → question < n → Holds (ss ++ (question, procedure) ∷ []) n self.new }

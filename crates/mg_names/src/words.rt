@@ -18,7 +18,12 @@ use mg_words::{MOST_POWER_LETTERS, NoMemory, Word, WordFault, commutator, power,
 use std::alloc::{AllocError, Global};
 
 /// Reads a word, which means a reduced word in the group; its names show the causes that are found.
-pub(crate) fn word(alloc: Global, cursor: &mut Cursor, home: &Home, found: &mut Found) -> Result<Word, NoMemory>
+pub(crate) fn word(
+    alloc: Global,
+    cursor: &mut Cursor,
+    home: &Home,
+    found: &mut Found,
+) -> Result<Word, NoMemory>
     requires { IsWordAhead cursor.old }
     ensures letters { (w : WordTree) (rest : ListOf Sign) → cursor.old ≡ word_signs w ++ rest → Stops rest →
         IfOk result (λ v. v.letters ≡ value home.now.names.now home.now.place home.now.generators.now w) }
@@ -36,7 +41,12 @@ pub(crate) fn word(alloc: Global, cursor: &mut Cursor, home: &Home, found: &mut 
 }
 
 /// Reads a word that is no name alone.
-fn written_out(alloc: Global, cursor: &mut Cursor, home: &Home, found: &mut Found) -> Result<Word, NoMemory>
+fn written_out(
+    alloc: Global,
+    cursor: &mut Cursor,
+    home: &Home,
+    found: &mut Found,
+) -> Result<Word, NoMemory>
     requires { IsWordAhead cursor.old }
     ensures { (w : WordTree) (rest : ListOf Sign) → cursor.old ≡ word_signs w ++ rest → Stops rest →
         IfOk result (λ v. IsRead home.now (word_names w) (written home.now.generators.now w) rest found.old v cursor.new found.new) }
@@ -50,7 +60,12 @@ fn written_out(alloc: Global, cursor: &mut Cursor, home: &Home, found: &mut Foun
 
 /// Reads the factors of a word.
 #[cycle(product)]
-fn product(alloc: Global, cursor: &mut Cursor, home: &Home, found: &mut Found) -> Result<Word, WordFault>
+fn product(
+    alloc: Global,
+    cursor: &mut Cursor,
+    home: &Home,
+    found: &mut Found,
+) -> Result<Word, WordFault>
     ensures read { (w : WordTree) (rest : ListOf Sign) → cursor.old ≡ word_signs w ++ rest → Stops rest →
         IfOk result (λ v. IsRead home.now (word_names w) (written home.now.generators.now w) rest found.old v cursor.new found.new) }
     ensures fits { (w : WordTree) (rest : ListOf Sign) → cursor.old ≡ word_signs w ++ rest → Stops rest →
@@ -79,7 +94,12 @@ fn skip_star(cursor: &mut Cursor)
 
 /// Reads a base, and its exponent if there is one.
 #[cycle(product)]
-fn factor(alloc: Global, cursor: &mut Cursor, home: &Home, found: &mut Found) -> Result<Word, WordFault>
+fn factor(
+    alloc: Global,
+    cursor: &mut Cursor,
+    home: &Home,
+    found: &mut Found,
+) -> Result<Word, WordFault>
     ensures read { (f : Factor) (rest : ListOf Sign) → cursor.old ≡ factor_signs f ++ rest → StartsWithoutCaret rest →
         IfOk result (λ v. IsRead home.now (factor_names f) (factor_written home.now.generators.now f) rest found.old v cursor.new found.new) }
     ensures fits { (f : Factor) (rest : ListOf Sign) → cursor.old ≡ factor_signs f ++ rest → StartsWithoutCaret rest →
@@ -137,7 +157,12 @@ fn raised(alloc: Global, root: Word, exponent: Exponent) -> Result<Word, WordFau
 
 /// Reads a name, the number 1, a word in parentheses or a commutator.
 #[cycle(product)]
-fn base(alloc: Global, cursor: &mut Cursor, home: &Home, found: &mut Found) -> Result<Word, WordFault>
+fn base(
+    alloc: Global,
+    cursor: &mut Cursor,
+    home: &Home,
+    found: &mut Found,
+) -> Result<Word, WordFault>
     ensures read { (b : Base) (rest : ListOf Sign) → cursor.old ≡ base_signs b ++ rest →
         IfOk result (λ v. IsRead home.now (base_names b) (base_written home.now.generators.now b) rest found.old v cursor.new found.new) }
     ensures fits { (b : Base) (rest : ListOf Sign) → cursor.old ≡ base_signs b ++ rest → BaseFits b → IsNotTooLong result }
@@ -153,7 +178,12 @@ fn base(alloc: Global, cursor: &mut Cursor, home: &Home, found: &mut Found) -> R
 }
 
 /// Reads a name, or the number 1.
-fn name_or_one(alloc: Global, cursor: &mut Cursor, home: &Home, found: &mut Found) -> Result<Word, NoMemory>
+fn name_or_one(
+    alloc: Global,
+    cursor: &mut Cursor,
+    home: &Home,
+    found: &mut Found,
+) -> Result<Word, NoMemory>
     ensures name { (n : Named) (rest : ListOf Sign) → cursor.old ≡ base_signs (named n) ++ rest →
         IfOk result (λ v. IsRead home.now (base_names (named n)) (base_written home.now.generators.now (named n)) rest found.old v cursor.new found.new) }
     ensures one { (rest : ListOf Sign) → cursor.old ≡ base_signs one ++ rest →
@@ -169,7 +199,12 @@ fn name_or_one(alloc: Global, cursor: &mut Cursor, home: &Home, found: &mut Foun
 
 /// Reads a word in parentheses.
 #[cycle(product)]
-fn in_round(alloc: Global, cursor: &mut Cursor, home: &Home, found: &mut Found) -> Result<Word, WordFault>
+fn in_round(
+    alloc: Global,
+    cursor: &mut Cursor,
+    home: &Home,
+    found: &mut Found,
+) -> Result<Word, WordFault>
     requires { 1 ≤ length cursor.old }
     ensures read { (w : WordTree) (rest : ListOf Sign) → cursor.old ≡ base_signs (round w) ++ rest →
         IfOk result (λ v. IsRead home.now (base_names (round w)) (base_written home.now.generators.now (round w)) rest found.old v cursor.new found.new) }
@@ -184,7 +219,12 @@ fn in_round(alloc: Global, cursor: &mut Cursor, home: &Home, found: &mut Found) 
 
 /// Reads a commutator.
 #[cycle(product)]
-fn in_square(alloc: Global, cursor: &mut Cursor, home: &Home, found: &mut Found) -> Result<Word, WordFault>
+fn in_square(
+    alloc: Global,
+    cursor: &mut Cursor,
+    home: &Home,
+    found: &mut Found,
+) -> Result<Word, WordFault>
     requires { 1 ≤ length cursor.old }
     ensures read { (u w : WordTree) (rest : ListOf Sign) → cursor.old ≡ base_signs (commutator u w) ++ rest →
         IfOk result (λ v. IsRead home.now (base_names (commutator u w)) (base_written home.now.generators.now (commutator u w)) rest found.old v cursor.new found.new) }

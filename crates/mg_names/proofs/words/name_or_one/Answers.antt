@@ -1,4 +1,3 @@
-use Rattle.std.proofs.Common.{ℤ, List}
 use Rattle.mg_words.specs.Word.{Held}
 use Rattle.mg_names.specs.Name.{named_of}
 use Rattle.mg_names.proofs.Parts.{name_read, ok_more}

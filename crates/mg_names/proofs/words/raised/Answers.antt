@@ -1,6 +1,4 @@
-use Rattle.std.proofs.Common.{◌≡◌, ◌∙◌, ◌==◌, true, sym, ap, subst, List, [], length, arith}
-use Rattle.std.proofs.lemmas.List.{nil_from_length}
-use Rattle.std.proofs.lemmas.Bool.Decides.{nat_tests}
+use Rattle.std.proofs.Common.{◌∙◌, sym}
 use Rattle.mg_names.proofs.Parts.{empty_power}
 use Rattle.mg_names.proofs.words.raised.Goals as goal
 

@@ -1,4 +1,4 @@
-use Rattle.std.proofs.Common.{◌≡◌, ◌∙◌, ap, not, true, false}
+use Rattle.std.proofs.Common.{◌∙◌, ap, not}
 use Rattle.mg_names.proofs.Reading.{alone_next, alone_last}
 use Rattle.mg_names.proofs.cursor.Cursor.is_name_alone.Goals as goal
 

@@ -9,5 +9,5 @@ pub returns-in-None-clause-causes : goal.returns-in-None-clause-causes
 returns-in-None-clause-causes c =
     gets_same _ _ c.args.found.now c.offer.new.self
     (ap (λ (o : Option ℕ). no_letter (named_of c.args.name) (lookup c.args.self.now.names.now c.args.name.text.now) o) (sym c.generator.ensures.place ∙ c.in-None.is)
-      ∙ c.unknown.ensures (named_of c.args.name))
+    ∙ c.unknown.ensures (named_of c.args.name))
     c.offer.ensures

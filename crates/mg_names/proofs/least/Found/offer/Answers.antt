@@ -1,5 +1,3 @@
-use Rattle.std.proofs.Common.{◌≡◌, true, false}
-use Rattle.mg_names.specs.Least.{IsNotAfter, shown_of}
 use Rattle.mg_names.proofs.Leasts.{offered_less}
 use Rattle.mg_names.proofs.least.Found.offer.Goals as goal
 

@@ -1,4 +1,4 @@
-use Rattle.std.proofs.Common.{◌≡◌, ◌∙◌, sym, None, nat_eq}
+use Rattle.std.proofs.Common.{◌∙◌}
 use Rattle.indexmap.proofs.CallerLemmas.{insert_entry-new}
 use Rattle.mg_names.proofs.Lookups.{none_before, declared_new}
 use Rattle.mg_names.proofs.scope.Names.declare.Goals as goal
