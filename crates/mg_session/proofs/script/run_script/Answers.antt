@@ -5,6 +5,9 @@ use Rattle.mg_session.specs.Scripts.{UseNone, IsFirstOther}
 use Rattle.mg_session.proofs.Unbuilt.{is_built, none_unbuilt, is_unbuilt, told_by_names}
 use Rattle.mg_session.proofs.script.run_script.Goals as goal
 
+pub resolve-requires : goal.resolve-requires
+resolve-requires c = (c.args.bytes.now, c.requires, c.in_ok-script.ensures.script)
+
 pub returns-in_err-plan-clause-script : goal.returns-in_err-plan-clause-script
 returns-in_err-plan-clause-script c = λ r told.
     let p = err_from_is_err_and c.from_residual-in_err-plan.result c.from_residual-in_err-plan.ensures.1 in
