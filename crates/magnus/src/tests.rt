@@ -7,6 +7,8 @@ use std::sync::Wait;
 use std::test::Fail;
 use std::thread::Threads;
 
+mod rows;
+
 const SQUARE: &[u8] =
     b"group G = < a | a^2 >\nask q : a^2 = 1 in G\nfund 100\ngrant q derive 21\nrun\nreport\n";
 
