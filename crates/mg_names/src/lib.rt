@@ -14,3 +14,6 @@ mod words;
 pub use laws::a_question_asks_once;
 pub use limits::{ASK_LETTER_LIMIT, COSET_LIMIT, REWRITE_LIMIT, SEARCH_LIMIT};
 pub use resolving::{ResolveRefused, resolve};
+
+#[cfg(test)]
+mod tests;
