@@ -37,12 +37,19 @@ impl Resolver {
     }
 
     /// The word that a statement declares, and the causes that the statement shows.
-    fn word_object(&self, alloc: Global, name: Name, group: Name, cursor: &mut Cursor, found: &mut Found) -> Result<Option<Object>, NoMemory>
+    fn word_object(
+        &self,
+        alloc: Global,
+        name: Name,
+        group: Name,
+        cursor: &mut Cursor,
+        found: &mut Found,
+    ) -> Result<Option<Object>, NoMemory>
         requires sound { IsSound self.now }
         requires ahead { (w : WordOf) × (cursor.old ≡ word_signs w) × IsSizedWord w }
         ensures { (scope : ScopeOf) (w : WordOf) → Keeps scope self.now → cursor.old ≡ word_signs w →
             IfOk result (λ object. IsDeclared scope (named_of name.entry) (word_causes scope (named_of name.entry) (named_of group.entry) w)
-                (after scope (word (named_of name.entry) (named_of group.entry) w)) found.old found.new object) }
+            (after scope (word (named_of name.entry) (named_of group.entry) w)) found.old found.new object) }
     {
         self.names.check_new(name, found);
         let Some(place) = self.names.group(group, found) else {
@@ -55,7 +62,11 @@ impl Resolver {
     }
 
     /// `word NAME in GROUP = WORD`
-    pub(crate) fn word(&mut self, alloc: Global, cursor: &mut Cursor) -> Result<Option<Fault>, NoMemory>
+    pub(crate) fn word(
+        &mut self,
+        alloc: Global,
+        cursor: &mut Cursor,
+    ) -> Result<Option<Fault>, NoMemory>
         requires sound { IsSound self.old }
         requires ahead { (n : Named) × (g : Named) × (w : WordOf) × (cursor.old ≡ tail_of (statement_signs (word n g w))) × IsSized (word n g w) }
         ensures { (scope : ScopeOf) (line : LineOf) (n : Named) (g : Named) (w : WordOf) → Keeps scope self.old → cursor.old ≡ tail_of (statement_signs (word n g w)) →
@@ -77,7 +88,11 @@ impl Resolver {
     }
 
     /// `subgroup NAME of GROUP = < WORDS >`
-    pub(crate) fn subgroup(&mut self, alloc: Global, cursor: &mut Cursor) -> Result<Option<Fault>, NoMemory>
+    pub(crate) fn subgroup(
+        &mut self,
+        alloc: Global,
+        cursor: &mut Cursor,
+    ) -> Result<Option<Fault>, NoMemory>
         requires sound { IsSound self.old }
         requires ahead { (n : Named) × (g : Named) × (ws : ListOf WordOf) × (cursor.old ≡ tail_of (statement_signs (subgroup n g ws))) × IsSized (subgroup n g ws) }
         ensures { (scope : ScopeOf) (line : LineOf) (n : Named) (g : Named) (ws : ListOf WordOf) → Keeps scope self.old → cursor.old ≡ tail_of (statement_signs (subgroup n g ws)) →
@@ -87,7 +102,11 @@ impl Resolver {
     }
 
     /// `ask NAME : QUESTION`
-    pub(crate) fn ask(&mut self, alloc: Global, cursor: &mut Cursor) -> Result<Option<Fault>, NoMemory>
+    pub(crate) fn ask(
+        &mut self,
+        alloc: Global,
+        cursor: &mut Cursor,
+    ) -> Result<Option<Fault>, NoMemory>
         requires sound { IsSound self.old }
         requires ahead { (n : Named) × (q : QuestionOf) × (cursor.old ≡ tail_of (statement_signs (ask n q))) × IsSized (ask n q) }
         ensures { (scope : ScopeOf) (line : LineOf) (n : Named) (q : QuestionOf) → Keeps scope self.old → cursor.old ≡ tail_of (statement_signs (ask n q)) →

@@ -32,3 +32,6 @@ pub use plan::{
     PlanStep, PlanSteps,
 };
 pub use resolving::{ResolveRefused, resolve};
+
+#[cfg(test)]
+mod tests;

@@ -23,7 +23,7 @@ pub returns : goal.returns
 returns c scope w keeps written =
     let whole = written ∙ sym (append-nil (word_signs w)) in
     let read = word_read scope c.in-Some.place c.home-home.result w c.group.new.found c.word.new.found c.in_ok-word.word (c.home-home.ensures scope (c.known-known.ensures.known scope keeps))
-        (c.in_ok-word.ensures.letters w [] whole tt) (c.in_ok-word.ensures.causes w [] whole tt) in
+    (c.in_ok-word.ensures.letters w [] whole tt) (c.in_ok-word.ensures.causes w [] whole tt) in
     word_declared scope c.args.self.now.names (named_of c.args.name) (named_of c.args.group) w c.in-Some.place c.in_ok-word.word c.args.found.now c.check_new.new.found c.group.new.found c.word.new.found keeps.names
     c.in-Some.ensures.some c.check_new.ensures c.group.ensures.causes read.causes read.letters
 
