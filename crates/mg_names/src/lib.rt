@@ -35,3 +35,6 @@ pub use resolving::{ResolveRefused, resolve};
 
 #[cfg(test)]
 mod tests;
+
+#[cfg(test)]
+mod script_tests;
