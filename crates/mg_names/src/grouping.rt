@@ -17,7 +17,11 @@ use std::alloc::{AllocError, Global};
 
 impl Resolver {
     /// `group NAME = < GENERATORS | RELATIONS >`
-    pub(crate) fn group(&mut self, alloc: Global, cursor: &mut Cursor) -> Result<Option<Fault>, NoMemory>
+    pub(crate) fn group(
+        &mut self,
+        alloc: Global,
+        cursor: &mut Cursor,
+    ) -> Result<Option<Fault>, NoMemory>
         requires sound { IsSound self.old }
         requires ahead { (n : Named) × (generators : ListOf Named) × (rs : Option (ListOf RelationOf)) × (cursor.old ≡ tail_of (statement_signs (group n generators rs))) × IsSized (group n generators rs) }
         ensures { (scope : ScopeOf) (line : LineOf) (n : Named) (generators : ListOf Named) (rs : Option (ListOf RelationOf)) → Keeps scope self.old → cursor.old ≡ tail_of (statement_signs (group n generators rs)) →
