@@ -1,4 +1,6 @@
+pub mod Firsts
 pub mod Gathers
 pub mod Hands
+pub mod Indexes
 pub mod Logs
 pub mod Scans

@@ -2,11 +2,12 @@
 ghost use Rattle.std.specs.Prelude.{◌≡◌, ◌≢◌, ℕ, ◌+◌, ◌≤◌, ◌<◌, ◌↔◌, ◌^◌, false, Some, List, [], ◌∷◌, ◌++◌, length, IsTrue, IfSome, IfNone, IfOk, OnOk, OnErr};
 ghost use Rattle.std.specs.List.{AllByRecursion};
 ghost use Rattle.mg_core.specs.Log.{facts_of, IsFact, VerdictIn, Settled, Handed};
-ghost use Rattle.mg_core.specs.Book.{Commits};
+ghost use Rattle.mg_core.specs.Book.{Commits, bare};
 
 use crate::entries::{Committed, Entry, Facts, Records};
+use crate::index::{Place, copy_of_places, place_among, place_for, put_place, record_at};
 use crate::record::Record;
-use crate::scan::{copy_of_entry, count_of, fact_at, models_above, verdict_for};
+use crate::scan::{copy_of_entry, count_of, fact_at, models_above};
 use mg_lists::NoMemory;
 use std::alloc::{AllocError, Global};
 use std::marker::Model;
@@ -16,18 +17,21 @@ use std::marker::Model;
 pub struct Book<R: Record> {
     entries: Vec<Entry<R>>,
     facts: u64,
+    /// Where the verdicts stand, in the order of their keys.
+    places: Vec<Place>,
 }
 
 impl<R: Record> Model for Book<R> {
     ghost use Rattle.std.specs.Prelude.{List};
     ghost use Rattle.mg_core.specs.declared.entries.Entry.{Entry as EntryOf};
     ghost use Rattle.mg_core.specs.Book.{IsCounted};
+    ghost use Rattle.mg_core.specs.Index.{IsIndexed};
 
     ghost Value = { List (EntryOf R) };
 
     ghost view = { λ a. a.entries.items };
 
-    ghost invariant = { λ a. IsCounted R.valid a.entries.items a.facts };
+    ghost invariant = { λ a. IsCounted R.valid a.entries.items a.facts × IsIndexed R.settled R.Key.cmp a.entries.items a.places.items };
 }
 
 impl<R: Record> Book<R> {
@@ -38,6 +42,7 @@ impl<R: Record> Book<R> {
         Book {
             entries: Vec::new(alloc),
             facts: 0,
+            places: Vec::new(alloc),
         }
     }
 
@@ -52,6 +57,7 @@ impl<R: Record> Book<R> {
         Ok(Book {
             entries,
             facts: self.facts,
+            places: copy_of_places(alloc, self.places.as_slice())?,
         })
     }
 
@@ -64,20 +70,29 @@ impl<R: Record> Book<R> {
         ensures ok { IfOk result (Commits R.settled key.now self.old entry self.new) }
         ensures err { OnErr result (self.new ≡ self.old) }
     {
-        let alloc = *self.entries.allocator();
-        if let Some(by) = self.verdict_number(key) {
-            let place = self.append(Entry {
-                pass: entry.pass,
-                search: entry.search,
-                turn: entry.turn,
-                units: entry.units,
-                dropped: true,
-                records: Records::new(alloc),
-            })?;
-            return Ok(Committed::Dropped { place, by });
+        match place_for(self.entries.as_slice(), self.places.as_slice(), key) {
+            Ok(verdict) => {
+                let place = self.append_bare(&entry)?;
+                Ok(Committed::Dropped {
+                    place,
+                    by: verdict.fact,
+                })
+            }
+            Err(at) => {
+                let records = entry.records.as_slice();
+                let Some(facts) = self.facts.checked_add(count_of(records)) else {
+                    return Err(AllocError);
+                };
+                let verdict = place_among(records, key, self.facts, self.entries.len());
+                self.places.reserve(1)?;
+                self.entries.push(entry)?;
+                self.facts = facts;
+                put_place(&mut self.places, at, verdict);
+                Ok(Committed::Kept {
+                    place: self.entries.len() as u64,
+                })
+            }
         }
-        let place = self.append(entry)?;
-        Ok(Committed::Kept { place })
     }
 
     /// The first fact that settles the key, with its number; None exactly where there is none.
@@ -85,9 +100,11 @@ impl<R: Record> Book<R> {
         ensures none { IfNone result (Settled R.settled self.now key.now → ⊥) }
         ensures some { IfSome result (λ v. VerdictIn R.settled self.now key.now v.0 v.1.now) }
     {
-        // The facts are counted in 64 bits.
-        let _facts = self.facts;
-        verdict_for(self.entries.as_slice(), key)
+        let entries = self.entries.as_slice();
+        match place_for(entries, self.places.as_slice(), key) {
+            Ok(place) => Some((place.fact, record_at(entries, place))),
+            Err(_) => None,
+        }
     }
 
     /// The fact with this number, from 1; None exactly where there are fewer.
@@ -129,33 +146,21 @@ impl<R: Record> Book<R> {
         models_above(alloc, self.entries.as_slice(), group, after, most)
     }
 
-    /// The number of the verdict for the key.
-    fn verdict_number(&self, key: &R::Key) -> Option<u64>
-        ensures none { IfNone result (Settled R.settled self.now key.now → ⊥) }
-        ensures some { IfSome result (λ n. (r : R) × VerdictIn R.settled self.now key.now n r) }
-    {
-        match self.verdict(key) {
-            Some((number, _)) => Some(number),
-            None => None,
-        }
-    }
-
-    /// Appends an entry as it is, and answers its place from 1.
-    fn append(&mut self, entry: Entry<R>) -> Result<u64, NoMemory>
-        ensures ok { OnOk result (self.new ≡ self.old ++ entry ∷ []) }
+    /// Appends an entry without its records, and answers its place from 1.
+    fn append_bare(&mut self, entry: &Entry<R>) -> Result<u64, NoMemory>
+        ensures ok { OnOk result (self.new ≡ self.old ++ bare entry.now ∷ []) }
         ensures place { IfOk result (λ place. place ≡ length self.new) }
         ensures err { OnErr result (self.new ≡ self.old) }
     {
-        let more = if entry.dropped {
-            0
-        } else {
-            count_of(entry.records.as_slice())
-        };
-        let Some(facts) = self.facts.checked_add(more) else {
-            return Err(AllocError);
-        };
-        self.entries.push(entry)?;
-        self.facts = facts;
+        let alloc = *self.entries.allocator();
+        self.entries.push(Entry {
+            pass: entry.pass,
+            search: entry.search,
+            turn: entry.turn,
+            units: entry.units,
+            dropped: true,
+            records: Records::new(alloc),
+        })?;
         Ok(self.entries.len() as u64)
     }
 }

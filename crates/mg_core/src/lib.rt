@@ -5,6 +5,7 @@
 mod ahead;
 mod book;
 mod entries;
+mod index;
 mod laws;
 mod record;
 mod scan;

@@ -1,11 +1,11 @@
 //! What is found in a log by going through its facts.
 ghost use Rattle.std.specs.Prelude.{◌≡◌, ◌≢◌, ℕ, ◌+◌, ◌≤◌, ◌<◌, ◌↔◌, ◌^◌, Some, List, length, IsTrue, IfSome, IfNone, IfOk};
 ghost use Rattle.std.specs.List.{AllByRecursion};
-ghost use Rattle.mg_core.specs.Log.{facts_of, IsFact, VerdictIn, Settled, Handed};
+ghost use Rattle.mg_core.specs.Log.{facts_of, IsFact, Handed};
 
 use crate::ahead::Ahead;
 use crate::entries::{Entry, Facts, Records};
-use crate::record::{Record, settles_key};
+use crate::record::Record;
 use mg_lists::NoMemory;
 use std::alloc::Global;
 use std::cmp::Ordering;
@@ -46,26 +46,6 @@ pub(crate) fn fact_at<'a, R>(entries: &'a [Entry<R>], n: u64) -> Option<&'a R>
             return Some(fact);
         }
         left -= 1;
-    }
-    None
-}
-
-/// The first fact that settles the key.
-pub(crate) fn verdict_for<'a, R: Record>(
-    entries: &'a [Entry<R>],
-    key: &R::Key,
-) -> Option<(u64, &'a R)>
-    requires { length (facts_of entries.now) < 2 ^ 64 }
-    ensures none { IfNone result (Settled R.settled entries.now key.now → ⊥) }
-    ensures some { IfSome result (λ v. VerdictIn R.settled entries.now key.now v.0 v.1.now) }
-{
-    let mut ahead = Ahead::of(entries);
-    let mut number = 0;
-    while let Some(fact) = ahead.next() {
-        number += 1;
-        if settles_key(fact, key) {
-            return Some((number, fact));
-        }
     }
     None
 }

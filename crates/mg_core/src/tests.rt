@@ -71,6 +71,18 @@ fn entry(alloc: Global, turn: u64, settling: bool, number: u32) -> Result<Entry<
     })
 }
 
+/// The entry of a turn that found a model of 9 and then settled 7.
+fn pair_of_marks(alloc: Global) -> Result<Entry<Mark>, NoMemory>
+    ensures { IfOk result (λ e. (e.dropped ≡ false) × (e.records ≡ (record { settling = false; number = 9 }) ∷ (record { settling = true; number = 7 }) ∷ [])) }
+{
+    let mut pair = entry(alloc, 0, false, 9)?;
+    pair.records.push(Mark {
+        settling: true,
+        number: 7,
+    })?;
+    Ok(pair)
+}
+
 #[test]
 fn keeps_and_drops(rt: HostRuntime) -> Result<(), Fail> {
     let alloc = rt.alloc();
@@ -136,5 +148,38 @@ fn hands_out_models(rt: HostRuntime) -> Result<(), Fail> {
             (after, upto, count)
         );
     }
+    Ok(())
+}
+
+/// The number of the verdict for the key.
+fn number_of(book: &Book<Mark>, key: u32) -> Option<u64> {
+    match book.verdict(&key) {
+        Some((number, _)) => Some(number),
+        None => None,
+    }
+}
+
+#[test]
+fn finds_verdicts_in_any_order_of_keys(rt: HostRuntime) -> Result<(), Fail> {
+    let alloc = rt.alloc();
+    for (first, second) in [(3, 7), (7, 3)] {
+        let mut book: Book<Mark> = Book::new(alloc);
+        book.commit(&first, entry(alloc, 0, true, first)?)?;
+        book.commit(&second, entry(alloc, 0, true, second)?)?;
+        book.commit(&first, entry(alloc, 1, true, first)?)?;
+        let copied = book.copy(alloc)?;
+        assert_eq!(rt; number_of(&copied, first), Some(1));
+        assert_eq!(rt; number_of(&copied, second), Some(2));
+        assert_eq!(rt; number_of(&copied, 5), None);
+    }
+    Ok(())
+}
+
+#[test]
+fn finds_the_second_record(rt: HostRuntime) -> Result<(), Fail> {
+    let alloc = rt.alloc();
+    let mut book: Book<Mark> = Book::new(alloc);
+    book.commit(&7, pair_of_marks(alloc)?)?;
+    assert_eq!(rt; number_of(&book, 7), Some(2));
     Ok(())
 }
