@@ -11,6 +11,7 @@ pub mod Alone
 pub mod Askings
 pub mod Causes
 pub mod Grants
+pub mod Groups
 pub mod Led
 pub mod Lengths
 pub mod Lookups
