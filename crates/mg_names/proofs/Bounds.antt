@@ -82,7 +82,7 @@ mutual
   factor_short gs (bare b) = base_short gs b
   factor_short gs (power b negative n) =
       let e : length (power_of (signed negative n) (base_written gs b)) ≡ length (base_written gs b) * n =
-          length-power_of (signed negative n) (base_written gs b) ∙ ap (λ k. length (base_written gs b) * k) (size_of_signed negative n) in
+      length-power_of (signed negative n) (base_written gs b) ∙ ap (λ k. length (base_written gs b) * k) (size_of_signed negative n) in
       let h : length (base_written gs b) * n ≤ base_letters (plain_base b) * n = mul-le-mul (base_short gs b) (omega arith) in
       omega (arith, e, h)
 

@@ -59,7 +59,7 @@ cancel_refused scope ds n p place o o' e h other =
     let same : lookup ds n.text ≡ lookup scope.names n.text = ap (λ (xs : List Declared). lookup xs n.text) e in
     let first : Gets (not_a_question n (lookup scope.names n.text)) o o' = subst (λ (f : Option Object). Gets (not_a_question n f) o o') same h in
     let none : not_applying_to scope p place (lookup scope.names n.text) ≡ [] =
-        no_applying scope p place (lookup scope.names n.text) (λ q f. other q (same ∙ f)) in
+    no_applying scope p place (lookup scope.names n.text) (λ q f. other q (same ∙ f)) in
     gets_both (not_a_question n (lookup scope.names n.text)) (not_applying_to scope p place (lookup scope.names n.text)) o o' o' first (gets_of _ [] o' o' none (gets_none o'))
 
 pub grant_refused : (scope : Scope) (ds : List Declared) (n : Named) (p : Procedure) (place : ℕ) (o o' : Option Shown) → ds ≡ scope.names → Gets (not_a_question n (lookup ds n.text)) o o' → ((q : ℕ) → lookup ds n.text ≢ Some (a_question q))
@@ -69,7 +69,7 @@ grant_refused scope ds n p place o o' e h other =
     let same : lookup ds n.text ≡ found = ap (λ (xs : List Declared). lookup xs n.text) e in
     let first : Gets (not_a_question n found) o o' = subst (λ (f : Option Object). Gets (not_a_question n f) o o') same h in
     let none : too_many_searches scope p place found ++ not_applying_to scope p place found ≡ [] =
-        ap (λ (xs : List Shown). xs ++ not_applying_to scope p place found) (no_searches scope p place found (λ q f. other q (same ∙ f))) ∙ no_applying scope p place found (λ q f. other q (same ∙ f)) in
+    ap (λ (xs : List Shown). xs ++ not_applying_to scope p place found) (no_searches scope p place found (λ q f. other q (same ∙ f))) ∙ no_applying scope p place found (λ q f. other q (same ∙ f)) in
     gets_both (not_a_question n found) (too_many_searches scope p place found ++ not_applying_to scope p place found) o o' o' first (gets_of _ [] o' o' none (gets_none o'))
 
 -- of a question it is
@@ -120,14 +120,14 @@ pub cancel_after : (scope : Scope) (ds : List Declared) (n m : Named) (p r : Pro
     → Keeps (after scope (cancel n p)) new
 cancel_after scope ds n m p r k new e names procedures there keeps =
     let found : Some (a_question k) ≡ lookup scope.names n.text =
-        sym there ∙ ap (λ (xs : List Declared). lookup xs m.text) e ∙ ap (λ (x : Named). lookup scope.names x.text) names in
+    sym there ∙ ap (λ (xs : List Declared). lookup xs m.text) e ∙ ap (λ (x : Named). lookup scope.names x.text) names in
     subst (λ (f : Option Object). Keeps (cancels scope p f) new) found (subst (λ (x : Procedure). Keeps (stepping scope (steps.cancel k x)) new) procedures keeps)
 
 pub grant_after : (scope : Scope) (ds : List Declared) (n m : Named) (p r : Procedure) (units count k : ℕ) (new : Resolver) → ds ≡ scope.names → m ≡ n → r ≡ p → count ≡ units → lookup ds m.text ≡ Some (a_question k)
     → Keeps (grants scope r count (Some (a_question k))) new → Keeps (after scope (grant n p units)) new
 grant_after scope ds n m p r units count k new e names procedures counts there keeps =
     let found : Some (a_question k) ≡ lookup scope.names n.text =
-        sym there ∙ ap (λ (xs : List Declared). lookup xs m.text) e ∙ ap (λ (x : Named). lookup scope.names x.text) names in
+    sym there ∙ ap (λ (xs : List Declared). lookup xs m.text) e ∙ ap (λ (x : Named). lookup scope.names x.text) names in
     subst (λ (f : Option Object). Keeps (grants scope p units f) new) found
     (subst (λ (x : ℕ). Keeps (grants scope p x (Some (a_question k))) new) counts (subst (λ (x : Procedure). Keeps (grants scope x count (Some (a_question k))) new) procedures keeps))
 

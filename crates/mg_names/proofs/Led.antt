@@ -73,7 +73,7 @@ pub fault_within : (lines : List ScriptLine) (i : ℕ) (line : ScriptLine) (old 
 fault_within lines i line old new fault f read led brings some =
     let resolved = brings led.scope read.statement led.keeps read.is_named in
     let first : IsFirst (shown led.scope line read.statement) (record { place = f.place; cause = f.cause }) =
-        subst (λ (o : Option Fault). IsLeastOf (shown led.scope line read.statement) (least_of o)) some resolved.shows in
+    subst (λ (o : Option Fault). IsLeastOf (shown led.scope line read.statement) (least_of o)) some resolved.shows in
     let within = first_within led.scope line read.statement (record { place = f.place; cause = f.cause }) read.is_named read.places first in
     omega (arith, within)
 
@@ -82,11 +82,11 @@ pub led_refused : (script lines : List ScriptLine) (i : ℕ) (line : ScriptLine)
 led_refused script lines i line old new fault f r same less e read led brings some number column cause =
     let resolved = brings led.scope read.statement led.keeps read.is_named in
     let first : IsFirst (shown led.scope line read.statement) (record { place = f.place; cause = f.cause }) =
-        subst (λ (o : Option Fault). IsLeastOf (shown led.scope line read.statement) (least_of o)) some resolved.shows in
+    subst (λ (o : Option Fault). IsLeastOf (shown led.scope line read.statement) (least_of o)) some resolved.shows in
     let places : f.place ≡ place_of r = omega (arith, column) in
     let whole : lines ≡ take i lines ++ line ∷ drop (i + 1) lines =
-        sym (take-append-drop (i + 1) lines) ∙ ap (λ (ls : List ScriptLine). ls ++ drop (i + 1) lines) (take_more lines i line less ∙ ap (λ (x : ScriptLine). take i lines ++ x ∷ []) (sym e))
-        ∙ append_assoc (take i lines) (line ∷ []) (drop (i + 1) lines) in
+    sym (take-append-drop (i + 1) lines) ∙ ap (λ (ls : List ScriptLine). ls ++ drop (i + 1) lines) (take_more lines i line less ∙ ap (λ (x : ScriptLine). take i lines ++ x ∷ []) (sym e))
+    ∙ append_assoc (take i lines) (line ∷ []) (drop (i + 1) lines) in
     record {
       front = take i lines;
       line = line;

@@ -10,6 +10,7 @@ pub mod Plans
 pub mod Alone
 pub mod Askings
 pub mod Causes
+pub mod Declarations
 pub mod Grants
 pub mod Groups
 pub mod Led

@@ -98,8 +98,14 @@ group_sized counts after n rs adds within bounded =
     let relators : how_many counted.Relators ps ≤ limit_of counted.Relators = limited counts after ps counted.Relators adds within in
     record {
       few_generators = omega (arith, generators, generators_many n, how_many-append counted.Generators (listed (generator_names n)) back);
-      few_relations = omega (arith, relators, listed_many counted.Relators relation_pieces one_relator (map plain_relation rs), length-map rs plain_relation,
-          how_many-append counted.Relators (listed (generator_names n)) back, how_many-append counted.Relators relations (the_mark mark.Greater ∷ []));
+      few_relations = omega (
+        arith,
+        relators,
+        listed_many counted.Relators relation_pieces one_relator (map plain_relation rs),
+        length-map rs plain_relation,
+        how_many-append counted.Relators (listed (generator_names n)) back,
+        how_many-append counted.Relators relations (the_mark mark.Greater ∷ []),
+      );
       each = all_more (λ (r : Relation). AllByRecursion IsBounded (relation_pieces (plain_relation r))) IsSizedRelation relation_sized rs
           (all_unmap (λ (r : grammar.Relation). AllByRecursion IsBounded (relation_pieces r)) plain_relation rs
           (listed_bounded relation_pieces (map plain_relation rs) (all_left IsBounded relations (the_mark mark.Greater ∷ []) (all_right IsBounded (listed (generator_names n)) back bounded.1.1.1.1).1)));
@@ -201,8 +207,8 @@ lines_few bytes [] h = omega arith
 lines_few bytes (line ∷ lines) h =
     ⊎_elim
     (λ ended. let less = lines_few ended.0 lines ended.2 in
-        ⊎_elim (λ feed. omega (arith, less, ap length feed.0, length-append line (10 ∷ ended.0)))
-        (λ both. omega (arith, less, ap length both, length-append line (13 ∷ 10 ∷ ended.0))) ended.1.1)
+    ⊎_elim (λ feed. omega (arith, less, ap length feed.0, length-append line (10 ∷ ended.0)))
+    (λ both. omega (arith, less, ap length both, length-append line (13 ∷ 10 ∷ ended.0))) ended.1.1)
     (λ last. let some = some_bytes line last.0.1 in omega (arith, some, ap length last.0.0, ap length last.1)) h
 
 pub script_few : (bytes : List ℕ) (script : List ScriptLine) → IsScript bytes script → length script ≤ length bytes

@@ -169,10 +169,10 @@ one_question_more ss n old new holds items count rewrites cosets =
         let number = number_below p in
         ⊎_elim (λ (here : q < n). get_or_append_left old.named.items more false (place q p) (omega (arith, holds.room, here, number)) ∙ holds.each q p here)
         (λ (past : n ≤ q).
-            let same : q ≡ n = omega (arith, less, past) in
-            let index : place q p ≡ length old.named.items + number_of p = omega (arith, same, holds.room) in
-            ap (λ (i : ℕ). get_or (old.named.items ++ more) i false) index ∙ (get_or-append-add old.named.items more (number_of p) false
-            ∙ (at_last p ∙ (sym (none_past ss n p holds.below) ∙ ap (λ (k : ℕ). is_named ss k p) (sym same)))))
+        let same : q ≡ n = omega (arith, less, past) in
+        let index : place q p ≡ length old.named.items + number_of p = omega (arith, same, holds.room) in
+        ap (λ (i : ℕ). get_or (old.named.items ++ more) i false) index ∙ (get_or-append-add old.named.items more (number_of p) false
+        ∙ (at_last p ∙ (sym (none_past ss n p holds.below) ∙ ap (λ (k : ℕ). is_named ss k p) (sym same)))))
         (cases_lt q n)
 
 or_true : (b : Bool) → (b || true) ≡ true
@@ -202,12 +202,12 @@ added ss n old new k r holds within items count rewrites cosets = record {
         let room = holds.room in
         ⊎_elim
         (λ (same : place k r ≡ place q p).
-            let questions : k ≡ q = omega (arith, same, number, other) in
-            let numbers : number_of r ≡ number_of p = omega (arith, same, number, other) in
-            let here : place q p < length old.named.items = omega (arith, room, less, number) in
-            ap (λ (i : ℕ). get_or (set old.named.items i true) (place q p) false) same ∙ (get_or-set_same old.named.items (place q p) true false here
-            ∙ (sym (or_true (is_named ss q p)) ∙ ap (λ (b : Bool). is_named ss q p || b) (sym (a_pair k r q p questions numbers)))))
+        let questions : k ≡ q = omega (arith, same, number, other) in
+        let numbers : number_of r ≡ number_of p = omega (arith, same, number, other) in
+        let here : place q p < length old.named.items = omega (arith, room, less, number) in
+        ap (λ (i : ℕ). get_or (set old.named.items i true) (place q p) false) same ∙ (get_or-set_same old.named.items (place q p) true false here
+        ∙ (sym (or_true (is_named ss q p)) ∙ ap (λ (b : Bool). is_named ss q p || b) (sym (a_pair k r q p questions numbers)))))
         (λ (apart : place k r ≡ place q p → ⊥).
-            get_or-set_other old.named.items (place k r) (place q p) true false (λ e. apart (sym e)) ∙ (holds.each q p less
-            ∙ (sym (or_none (is_named ss q p)) ∙ ap (λ (b : Bool). is_named ss q p || b) (sym (no_pair k r q p (λ e f. apart (omega (arith, e, f))))))))
+        get_or-set_other old.named.items (place k r) (place q p) true false (λ e. apart (sym e)) ∙ (holds.each q p less
+        ∙ (sym (or_none (is_named ss q p)) ∙ ap (λ (b : Bool). is_named ss q p || b) (sym (no_pair k r q p (λ e f. apart (omega (arith, e, f))))))))
         (same_place (place k r) (place q p))

@@ -301,5 +301,5 @@ line_names_in bytes (t ∷ ts) (lexeme.Mark m ∷ xs) h = line_names_in bytes ts
 pub first_within : (scope : Scope) (line : ScriptLine) (s : Statement) (f : Shown) → IsNamed line s → AllByRecursion (λ t. t.start < LINE_LIMIT) line.tokens → IsFirst (shown scope line s) f → f.place < LINE_LIMIT
 first_within scope line s f is_named tokens first =
     let all : AreIn (shown scope line s) = shown_in scope line s (last_token_in line.tokens tokens) (third_token_in line.tokens tokens)
-        (subst AreNamesIn (sym is_named.names) (line_names_in line.bytes line.tokens line.lexemes tokens)) in
+    (subst AreNamesIn (sym is_named.names) (line_names_in line.bytes line.tokens line.lexemes tokens)) in
     All-contains IsIn (shown scope line s) f (All-from_recursion IsIn (shown scope line s) all) first.among

@@ -51,18 +51,18 @@ not_after_or : (s t : Shown) → IsNotAfter s t ⊎ (IsNotAfter s t → ⊥)
 not_after_or s t =
     ⊎_elim (λ (h : s.place < t.place). inl (inl h))
     (λ (h : t.place ≤ s.place). ⊎_elim (λ (k : t.place < s.place). inr (λ n. ⊎_elim (λ (l : s.place < t.place). omega arith) (λ l. let e = l.0 in omega arith) n))
-        (λ (k : s.place ≤ t.place). let e : s.place ≡ t.place = omega arith in
-            ⊎_elim (λ (l : cause_number t.cause < cause_number s.cause). inr (λ n. ⊎_elim (λ (m : s.place < t.place). omega arith) (λ m. let f = m.1 in omega arith) n))
-            (λ (l : cause_number s.cause ≤ cause_number t.cause). inl (inr (e, l))) (cases_lt (cause_number t.cause) (cause_number s.cause)))
-        (cases_lt t.place s.place))
+    (λ (k : s.place ≤ t.place). let e : s.place ≡ t.place = omega arith in
+    ⊎_elim (λ (l : cause_number t.cause < cause_number s.cause). inr (λ n. ⊎_elim (λ (m : s.place < t.place). omega arith) (λ m. let f = m.1 in omega arith) n))
+    (λ (l : cause_number s.cause ≤ cause_number t.cause). inl (inr (e, l))) (cases_lt (cause_number t.cause) (cause_number s.cause)))
+    (cases_lt t.place s.place))
     (cases_lt s.place t.place)
 
 first_behind : (front : List Shown) (s : Shown) (back : List Shown) → IsFirst front s → (f : Shown) × IsFirst (front ++ back) f
 first_behind front s [] is = (s, subst (λ (ss : List Shown). IsFirst ss s) (sym (append-nil front)) is)
 first_behind front s (t ∷ back) is =
     let step : (u : Shown) → IsFirst (front ++ t ∷ []) u → (f : Shown) × IsFirst (front ++ t ∷ back) f = λ u first.
-        let h = first_behind (front ++ t ∷ []) u back first in
-        (h.0, subst (λ (ss : List Shown). IsFirst ss h.0) (append_assoc front (t ∷ []) back) h.1) in
+    let h = first_behind (front ++ t ∷ []) u back first in
+    (h.0, subst (λ (ss : List Shown). IsFirst ss h.0) (append_assoc front (t ∷ []) back) h.1) in
     ⊎_elim (λ keeps. step s (same_least front s t is keeps)) (λ goes. step t (new_least front s t is goes)) (not_after_or s t)
 
 first_of : (s : Shown) (ss : List Shown) → (f : Shown) × IsFirst (s ∷ ss) f
@@ -97,14 +97,32 @@ pub record RefusedFrom (start : Scope) (lines : List ScriptLine) (r : Refused) :
 
 to_refused : (script : List ScriptLine) (r : Refused) → RefusedFrom nothing script r → IsRefused script r
 to_refused script r h = record {
-  front = h.front; line = h.line; back = h.back; split = h.split; scope = h.scope; before = h.before;
-  statement = h.statement; is_named = h.is_named; numbered = h.numbered; column = h.column; first = h.first;
+  front = h.front;
+  line = h.line;
+  back = h.back;
+  split = h.split;
+  scope = h.scope;
+  before = h.before;
+  statement = h.statement;
+  is_named = h.is_named;
+  numbered = h.numbered;
+  column = h.column;
+  first = h.first;
 }
 
 from_refused : (script : List ScriptLine) (r : Refused) → IsRefused script r → RefusedFrom nothing script r
 from_refused script r h = record {
-  front = h.front; line = h.line; back = h.back; split = h.split; scope = h.scope; before = h.before;
-  statement = h.statement; is_named = h.is_named; numbered = h.numbered; column = h.column; first = h.first;
+  front = h.front;
+  line = h.line;
+  back = h.back;
+  split = h.split;
+  scope = h.scope;
+  before = h.before;
+  statement = h.statement;
+  is_named = h.is_named;
+  numbered = h.numbered;
+  column = h.column;
+  first = h.first;
 }
 
 refused_here : (start : Scope) (line : ScriptLine) (lines : List ScriptLine) (s : Statement) (f : Shown) → IsNamed line s → IsFirst (shown start line s) f
@@ -152,8 +170,10 @@ decided start (line ∷ lines) read = by_shown (shown start line read.0.statemen
         (λ refused. inr (refused.0, refused_later start line lines read.0.statement refused.0 read.0.is_named none refused.1)) others
     by_shown (x ∷ xs) some others =
         let f = first_of x xs in
-        inr (record { line = line.number; column = f.0.place + 1; cause = f.0.cause },
-        refused_here start line lines read.0.statement f.0 read.0.is_named (subst (λ (ss : List Shown). IsFirst ss f.0) (sym some) f.1))
+        inr (
+          record { line = line.number; column = f.0.place + 1; cause = f.0.cause },
+          refused_here start line lines read.0.statement f.0 read.0.is_named (subst (λ (ss : List Shown). IsFirst ss f.0) (sym some) f.1),
+        )
 
 pub plan_or_refusal : (script : List ScriptLine) → AllByRecursion IsReadLine script → ((plan : Plan) × IsPlanOf script plan) ⊎ ((r : Refused) × IsRefused script r)
 plan_or_refusal script read =
@@ -206,23 +226,23 @@ one_from start [] l ls a s r [] m ms b t q e h k =
     let same : s ≡ t = one_named l s t h.1 named in
     let scopes : a ≡ b = h.0 ∙ sym k.0 in
     let first : IsFirst (shown a l s) (record { place = place_of q; cause = q.cause }) =
-        subst (λ (x : Statement). IsFirst (shown a l x) (record { place = place_of q; cause = q.cause })) (sym same)
-        (subst (λ (x : Scope). IsFirst (shown x l t) (record { place = place_of q; cause = q.cause })) (sym scopes)
-        (subst (λ (x : ScriptLine). IsFirst (shown b x t) (record { place = place_of q; cause = q.cause })) (sym lines) k.4)) in
+    subst (λ (x : Statement). IsFirst (shown a l x) (record { place = place_of q; cause = q.cause })) (sym same)
+    (subst (λ (x : Scope). IsFirst (shown x l t) (record { place = place_of q; cause = q.cause })) (sym scopes)
+    (subst (λ (x : ScriptLine). IsFirst (shown b x t) (record { place = place_of q; cause = q.cause })) (sym lines) k.4)) in
     same_refusal a l s r q h.2 (k.2 ∙ ap (λ (x : ScriptLine). x.number) (sym lines)) h.3 k.3 h.4 first
 one_from start [] l ls a s r (y ∷ ys) m ms b t q e h k =
     let lines : l ≡ y = cc in
     let named : IsNamed l k.0.0 = subst (λ (x : ScriptLine). IsNamed x k.0.0) (sym lines) k.0.1 in
     let same : s ≡ k.0.0 = one_named l s k.0.0 h.1 named in
     let none : shown a l s ≡ [] =
-        ap (λ (x : Scope). shown x l s) h.0 ∙ ap (λ (x : ScriptLine). shown start x s) lines ∙ ap (λ (x : Statement). shown start y x) same ∙ k.0.2 in
+    ap (λ (x : Scope). shown x l s) h.0 ∙ ap (λ (x : ScriptLine). shown start x s) lines ∙ ap (λ (x : Statement). shown start y x) same ∙ k.0.2 in
     absurd (none_first (shown a l s) (record { place = place_of r; cause = r.cause }) none h.4)
 one_from start (x ∷ xs) l ls a s r [] m ms b t q e h k =
     let lines : m ≡ x = cc in
     let named : IsNamed m h.0.0 = subst (λ (z : ScriptLine). IsNamed z h.0.0) (sym lines) h.0.1 in
     let same : t ≡ h.0.0 = one_named m t h.0.0 k.1 named in
     let none : shown b m t ≡ [] =
-        ap (λ (z : Scope). shown z m t) k.0 ∙ ap (λ (z : ScriptLine). shown start z t) lines ∙ ap (λ (z : Statement). shown start x z) same ∙ h.0.2 in
+    ap (λ (z : Scope). shown z m t) k.0 ∙ ap (λ (z : ScriptLine). shown start z t) lines ∙ ap (λ (z : Statement). shown start x z) same ∙ h.0.2 in
     absurd (none_first (shown b m t) (record { place = place_of q; cause = q.cause }) none k.4)
 one_from start (x ∷ xs) l ls a s r (y ∷ ys) m ms b t q e h k =
     let lines : x ≡ y = cc in

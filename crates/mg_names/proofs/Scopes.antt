@@ -310,8 +310,8 @@ group_keeps lines scope is n generators rs sized =
     let count : length (texts generators) ≡ length generators = length-map generators (λ (m : Named). m.text) in
     let new : (h : PlanGroup) → IsGroupAt scope.plan (length scope.plan.groups) h → ⊥ = λ h e. get_past scope.plan.groups h e in
     let given : AllByRecursion (λ (r : Relation). IsGiven (length generators) (f r)) rs =
-        all_more IsSizedRelation (λ (r : Relation). IsGiven (length generators) (f r))
-        (λ r k. subst (λ (m : ℕ). IsGiven m (f r)) count (relator_given scope.plan scope.names (length scope.plan.groups) (texts generators) r is.names new k)) rs sized.each in
+    all_more IsSizedRelation (λ (r : Relation). IsGiven (length generators) (f r))
+    (λ r k. subst (λ (m : ℕ). IsGiven m (f r)) count (relator_given scope.plan scope.names (length scope.plan.groups) (texts generators) r is.names new k)) rs sized.each in
     let presented : IsPlanGroup g = record {
       presented = record {
         generators = sized.few_generators;
@@ -404,8 +404,10 @@ kernel_asking lines scope is w (Some (a_subgroup place ws)) object sized = tt
 kernel_asking lines scope is w (Some (a_map source target images)) object sized =
     let has : HasImages scope.plan source target images = object (a_map source target images) refl in
     record {
-      fit = (given_at scope target has.to images has.to_there has.given,
-          subst (λ (m : ℕ). IsGiven m (value scope.names source (group_at scope source).generators w)) (sym has.each) (in_group lines scope is source w has.from has.from_there sized));
+      fit = (
+        given_at scope target has.to images has.to_there has.given,
+        subst (λ (m : ℕ). IsGiven m (value scope.names source (group_at scope source).generators w)) (sym has.each) (in_group lines scope is source w has.from has.from_there sized),
+      );
       group = group_at scope target;
       there = at_place scope target (has.to, has.to_there);
       same = refl;
@@ -532,7 +534,7 @@ can_be_asked lines scope is place p q there k none =
     let z = zip_get (AsksFor scope.plan) scope.plan.questions scope.questions place q is.questions there in
     let asks : AsksFor scope.plan q z.0 = z.2 in
     let shown_none : of_asked p k (plain (ask_for z.0)) ≡ [] =
-        sym (ap (λ (o : Option PlanQuestion). not_applying p k o) there ∙ ap (λ (x : Asked). of_asked p k x) asks.asked) ∙ none in
+    sym (ap (λ (o : Option PlanQuestion). not_applying p k o) there ∙ ap (λ (x : Asked). of_asked p k x) asks.asked) ∙ none in
     record { ask = ask_for z.0; asked = (q, there, asks.asked); applies = applying p (ask_for z.0) (none_unless _ _ [] shown_none) }
 
 -- pairs of a question and a procedure

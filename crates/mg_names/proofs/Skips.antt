@@ -1,11 +1,10 @@
 -- Going over a word by counting its brackets.
-use Rattle.std.proofs.Common.{◌≡◌, ℕ, zero, suc, ◌+◌, ◌-◌, ◌<◌, ◌≤◌, ◌==◌, ◌&&◌, if◌then◌else◌, Bool, true, false, not, Option, Some, None, List, [], ◌∷◌, ◌++◌, length, drop, refl, sym, ap, subst, ◌∙◌, append_assoc, append-nil, arith}
+use Rattle.std.proofs.Common.{◌≡◌, ℕ, ◌+◌, ◌-◌, ◌==◌, ◌&&◌, if◌then◌else◌, Bool, true, false, not, Some, None, List, [], ◌∷◌, ◌++◌, length, drop, refl, sym, ap, subst, ◌∙◌, append_assoc, arith}
 use Rattle.std.proofs.lemmas.Bool.Decides.{Decides-eqb}
 use Rattle.mg_lex.specs.declared.mark.Mark.TheVariants as mark
 use Rattle.mg_terms.specs.declared.lexeme.Lexeme.{Lexeme}
-use Rattle.mg_terms.specs.declared.lexeme.Lexeme.TheVariants as lexeme
-use Rattle.mg_names.specs.Named.{Named, Base, named, one, round, commutator, Factor, bare, power, Word, single, times}
-use Rattle.mg_names.specs.Sign.{Sign, a_name, the_mark, the_number, sign_lexeme, first_lexeme, goes_on, depth_behind, Stops, star_signs, minus_signs, base_signs, factor_signs, word_signs}
+use Rattle.mg_names.specs.Named.{Base, named, one, round, commutator, Factor, bare, power, Word, single, times}
+use Rattle.mg_names.specs.Sign.{Sign, a_name, the_mark, the_number, sign_lexeme, first_lexeme, goes_on, depth_behind, Stops, base_signs, factor_signs, word_signs}
 
 -- nothing is gone over outside brackets that is no part of a word
 abbrev pub stays : ℕ → Lexeme → Bool

@@ -75,8 +75,12 @@ mutual
       record { whole = round h.whole; rest = h.rest; is = ap tree.round h.is; cut = h.cut; left = h.left }
   base_cut (tree.commutator u v) ns k e =
       let g = word_cut u ns (name_count (tree.word_lexemes v) + k)
-      (omega (arith, e, name_count-append (tree.word_lexemes u) (lexeme.Mark mark.Comma ∷ (tree.word_lexemes v ++ lexeme.Mark mark.CloseSquare ∷ [])),
-      name_count-append (tree.word_lexemes v) (lexeme.Mark mark.CloseSquare ∷ []))) in
+      (omega (
+        arith,
+        e,
+        name_count-append (tree.word_lexemes u) (lexeme.Mark mark.Comma ∷ (tree.word_lexemes v ++ lexeme.Mark mark.CloseSquare ∷ [])),
+        name_count-append (tree.word_lexemes v) (lexeme.Mark mark.CloseSquare ∷ []),
+      )) in
       let h = word_cut v g.rest k g.left in
       record {
         whole = commutator g.whole h.whole;
@@ -229,10 +233,11 @@ question_cut (grammar.equal u v) ns e =
     let g = word_cut u ns (name_count (tree.word_lexemes v) + 1)
     (omega (arith, e, name_count-append (tree.word_lexemes u) (lexeme.Mark mark.Equals ∷ (tree.word_lexemes v ++ pieces_lexemes in_name)), name_count-append (tree.word_lexemes v) (pieces_lexemes in_name))) in
     let h = word_cut v g.rest 1 g.left in
-    let l = last_name h.rest h.left in
-    (equal g.whole h.whole l.0,
-     ap (λ x. grammar.equal x (plain_word h.whole)) g.is ∙ ap (grammar.equal u) h.is,
-     sym (g.cut ∙ ap (λ t. word_names g.whole ++ t) (h.cut ∙ ap (λ t. word_names h.whole ++ t) l.1)))
+    let l = last_name h.rest h.left in (
+      equal g.whole h.whole l.0,
+      ap (λ x. grammar.equal x (plain_word h.whole)) g.is ∙ ap (grammar.equal u) h.is,
+      sym (g.cut ∙ ap (λ t. word_names g.whole ++ t) (h.cut ∙ ap (λ t. word_names h.whole ++ t) l.1)),
+    )
 question_cut (grammar.member w) ns e =
     let g = word_cut w ns 1 (omega (arith, e, word_piece_count w (grammar.the_keyword keyword.In ∷ grammar.a_name ∷ []))) in
     let l = last_name g.rest g.left in
@@ -257,10 +262,11 @@ statement_cut : (g : grammar.Statement) (ns : List Named) → length ns ≡ name
 statement_cut (grammar.group n rs) [] e = absurd (omega (arith, e))
 statement_cut (grammar.group n rs) (m ∷ ns) e =
     let g = generators_cut n ns (pieces_count (bar_pieces rs)) (omega (arith, e, generators_count n, pieces_count-append (listed (generator_names n)) (bar_pieces rs ++ the_mark mark.Greater ∷ []), pieces_count-append (bar_pieces rs) (the_mark mark.Greater ∷ []))) in
-    let h = bar_cut rs g.rest 0 (omega (arith, g.left)) in
-    (group m g.whole h.whole,
-     ap (λ k. grammar.group k (plain_bar h.whole)) g.is ∙ ap (grammar.group n) h.is,
-     ap (λ t. m ∷ t) (sym (g.cut ∙ ap (λ t. g.whole ++ t) (h.cut ∙ ap (λ t. bar_names h.whole ++ t) (nothing_left h.rest h.left) ∙ append-nil (bar_names h.whole)))))
+    let h = bar_cut rs g.rest 0 (omega (arith, g.left)) in (
+      group m g.whole h.whole,
+      ap (λ k. grammar.group k (plain_bar h.whole)) g.is ∙ ap (grammar.group n) h.is,
+      ap (λ t. m ∷ t) (sym (g.cut ∙ ap (λ t. g.whole ++ t) (h.cut ∙ ap (λ t. bar_names h.whole ++ t) (nothing_left h.rest h.left) ∙ append-nil (bar_names h.whole)))),
+    )
 statement_cut (grammar.word w) [] e = absurd (omega (arith, e))
 statement_cut (grammar.word w) (n ∷ []) e = absurd (omega (arith, e))
 statement_cut (grammar.word w) (n ∷ (g ∷ ns)) e =
@@ -276,9 +282,11 @@ statement_cut (grammar.mapping ws) (n ∷ []) e = absurd (omega (arith, e))
 statement_cut (grammar.mapping ws) (n ∷ (a ∷ [])) e = absurd (omega (arith, e))
 statement_cut (grammar.mapping ws) (n ∷ (a ∷ (b ∷ ns))) e =
     let h = section_names (λ (a : Arrow). plain_word a.image) (λ (a : Arrow). a.generator ∷ word_names a.image) (λ w. pieces_count (arrow_pieces w)) arrow_cut ws ns 0
-    (omega (arith, e, listed_count arrow_pieces ws, pieces_count-append (listed (map arrow_pieces ws)) (the_mark mark.CloseSquare ∷ []))) in
-    (mapping n a b h.whole, ap grammar.mapping h.is,
-     ap (λ t. n ∷ a ∷ b ∷ t) (sym (h.cut ∙ ap (λ t. flat_map (λ (a : Arrow). a.generator ∷ word_names a.image) h.whole ++ t) (nothing_left h.rest h.left) ∙ append-nil (flat_map (λ (a : Arrow). a.generator ∷ word_names a.image) h.whole))))
+    (omega (arith, e, listed_count arrow_pieces ws, pieces_count-append (listed (map arrow_pieces ws)) (the_mark mark.CloseSquare ∷ []))) in (
+      mapping n a b h.whole,
+      ap grammar.mapping h.is,
+      ap (λ t. n ∷ a ∷ b ∷ t) (sym (h.cut ∙ ap (λ t. flat_map (λ (a : Arrow). a.generator ∷ word_names a.image) h.whole ++ t) (nothing_left h.rest h.left) ∙ append-nil (flat_map (λ (a : Arrow). a.generator ∷ word_names a.image) h.whole))),
+    )
 statement_cut (grammar.ask q) [] e = absurd (omega (arith, e))
 statement_cut (grammar.ask q) (n ∷ ns) e =
     let h = question_cut q ns (omega (arith, e)) in

@@ -197,7 +197,7 @@ last_behind (x ∷ xs) s t = last_behind xs x t
 ends_of : (xs ys : List Sign) (m n : Named) (ss : List Sign) → ss ≡ xs ++ a_name m ∷ [] → ss ≡ ys ++ a_name n ∷ [] → m ≡ n
 ends_of xs ys m n ss e f =
     let same : a_name m ≡ a_name n =
-        sym (last_behind xs (a_name m) (a_name m)) ∙ (ap (last_sign (a_name m)) (sym e ∙ f) ∙ last_behind ys (a_name m) (a_name n)) in
+    sym (last_behind xs (a_name m) (a_name m)) ∙ (ap (last_sign (a_name m)) (sym e ∙ f) ∙ last_behind ys (a_name m) (a_name n)) in
     cc
 
 -- what is read at the end is the name there

@@ -15,6 +15,7 @@ pub mod Reads
 pub mod Within
 pub mod Searches
 pub mod Asked
+pub mod Declaring
 pub mod Keeping
 pub mod Printing
 pub mod Turn

@@ -66,7 +66,12 @@ fn form_next(cursor: &Cursor) -> Form
 
 /// Reads the question that an `ask` names. There is none where its last name stands for something else
 /// than is needed.
-pub(crate) fn read_question(alloc: Global, cursor: &mut Cursor, known: &Known, found: &mut Found) -> Result<Option<Asking>, NoMemory>
+pub(crate) fn read_question(
+    alloc: Global,
+    cursor: &mut Cursor,
+    known: &Known,
+    found: &mut Found,
+) -> Result<Option<Asking>, NoMemory>
     requires known { AreWithin known.now }
     requires ahead { IsQuestionAhead cursor.old }
     ensures { (scope : Scope) (q : QuestionTree) → IsKnown scope known.now → cursor.old ≡ question_signs q →
@@ -82,7 +87,12 @@ pub(crate) fn read_question(alloc: Global, cursor: &mut Cursor, known: &Known, f
 }
 
 /// Reads whether two words are equal, or a word is one.
-fn equality(alloc: Global, cursor: &mut Cursor, known: &Known, found: &mut Found) -> Result<Option<Asking>, NoMemory>
+fn equality(
+    alloc: Global,
+    cursor: &mut Cursor,
+    known: &Known,
+    found: &mut Found,
+) -> Result<Option<Asking>, NoMemory>
     requires known { AreWithin known.now }
     requires ahead { (u v : WordTree) × (g : Named) × (cursor.old ≡ question_signs (equal u v g)) × IsSizedQuestion (equal u v g) }
     ensures { (scope : Scope) (u v : WordTree) (g : Named) → IsKnown scope known.now → cursor.old ≡ question_signs (equal u v g) →
@@ -113,7 +123,12 @@ fn equality(alloc: Global, cursor: &mut Cursor, known: &Known, found: &mut Found
 }
 
 /// Reads whether a word lies in a subgroup.
-fn membership(alloc: Global, cursor: &mut Cursor, known: &Known, found: &mut Found) -> Result<Option<Asking>, NoMemory>
+fn membership(
+    alloc: Global,
+    cursor: &mut Cursor,
+    known: &Known,
+    found: &mut Found,
+) -> Result<Option<Asking>, NoMemory>
     requires known { AreWithin known.now }
     requires ahead { (w : WordTree) × (h : Named) × (cursor.old ≡ question_signs (member w h)) × IsSizedQuestion (member w h) }
     ensures { (scope : Scope) (w : WordTree) (h : Named) → IsKnown scope known.now → cursor.old ≡ question_signs (member w h) →
@@ -139,7 +154,12 @@ fn membership(alloc: Global, cursor: &mut Cursor, known: &Known, found: &mut Fou
 }
 
 /// Reads whether the image of a word is one.
-fn in_kernel(alloc: Global, cursor: &mut Cursor, known: &Known, found: &mut Found) -> Result<Option<Asking>, NoMemory>
+fn in_kernel(
+    alloc: Global,
+    cursor: &mut Cursor,
+    known: &Known,
+    found: &mut Found,
+) -> Result<Option<Asking>, NoMemory>
     requires known { AreWithin known.now }
     requires ahead { (w : WordTree) × (f : Named) × (cursor.old ≡ question_signs (vanishes w f)) × IsSizedQuestion (vanishes w f) }
     ensures { (scope : Scope) (w : WordTree) (f : Named) → IsKnown scope known.now → cursor.old ≡ question_signs (vanishes w f) →
@@ -161,7 +181,12 @@ fn in_kernel(alloc: Global, cursor: &mut Cursor, known: &Known, found: &mut Foun
 }
 
 /// Reads whether a word commutes with every element.
-fn centrality(alloc: Global, cursor: &mut Cursor, known: &Known, found: &mut Found) -> Result<Option<Asking>, NoMemory>
+fn centrality(
+    alloc: Global,
+    cursor: &mut Cursor,
+    known: &Known,
+    found: &mut Found,
+) -> Result<Option<Asking>, NoMemory>
     requires known { AreWithin known.now }
     requires ahead { (w : WordTree) × (g : Named) × (cursor.old ≡ question_signs (central w g)) × IsSizedQuestion (central w g) }
     ensures { (scope : Scope) (w : WordTree) (g : Named) → IsKnown scope known.now → cursor.old ≡ question_signs (central w g) →
@@ -182,7 +207,12 @@ fn centrality(alloc: Global, cursor: &mut Cursor, known: &Known, found: &mut Fou
 }
 
 /// Reads whether what a name stands for has a property.
-fn property(alloc: Global, cursor: &mut Cursor, known: &Known, found: &mut Found) -> Result<Option<Asking>, NoMemory>
+fn property(
+    alloc: Global,
+    cursor: &mut Cursor,
+    known: &Known,
+    found: &mut Found,
+) -> Result<Option<Asking>, NoMemory>
     requires known { AreWithin known.now }
     requires ahead { (n : Named) × (p : PropertyOf) × (cursor.old ≡ question_signs (has n p)) }
     ensures { (scope : Scope) (n : Named) (p : PropertyOf) → IsKnown scope known.now → cursor.old ≡ question_signs (has n p) →
@@ -218,7 +248,12 @@ fn property_next(cursor: &Cursor) -> Property
 }
 
 /// Whether a group has one element alone.
-fn trivial(alloc: Global, name: Name, known: &Known, found: &mut Found) -> Result<Option<Asking>, NoMemory>
+fn trivial(
+    alloc: Global,
+    name: Name,
+    known: &Known,
+    found: &mut Found,
+) -> Result<Option<Asking>, NoMemory>
     requires known { AreWithin known.now }
     ensures { (scope : Scope) → IsKnown scope known.now →
         IfOk result (λ a. IsQuestionRead scope (has (named_of name.entry) Property.Trivial) found.old found.new a) }
@@ -235,7 +270,12 @@ fn trivial(alloc: Global, name: Name, known: &Known, found: &mut Found) -> Resul
 }
 
 /// Whether all elements of a group commute.
-fn abelian(alloc: Global, name: Name, known: &Known, found: &mut Found) -> Result<Option<Asking>, NoMemory>
+fn abelian(
+    alloc: Global,
+    name: Name,
+    known: &Known,
+    found: &mut Found,
+) -> Result<Option<Asking>, NoMemory>
     requires known { AreWithin known.now }
     ensures { (scope : Scope) → IsKnown scope known.now →
         IfOk result (λ a. IsQuestionRead scope (has (named_of name.entry) Property.Abelian) found.old found.new a) }
@@ -252,7 +292,12 @@ fn abelian(alloc: Global, name: Name, known: &Known, found: &mut Found) -> Resul
 }
 
 /// Whether a subgroup is normal.
-fn normal(alloc: Global, name: Name, known: &Known, found: &mut Found) -> Result<Option<Asking>, NoMemory>
+fn normal(
+    alloc: Global,
+    name: Name,
+    known: &Known,
+    found: &mut Found,
+) -> Result<Option<Asking>, NoMemory>
     requires known { AreWithin known.now }
     ensures { (scope : Scope) → IsKnown scope known.now →
         IfOk result (λ a. IsQuestionRead scope (has (named_of name.entry) Property.Normal) found.old found.new a) }
@@ -273,7 +318,12 @@ fn normal(alloc: Global, name: Name, known: &Known, found: &mut Found) -> Result
 }
 
 /// Whether a map extends to a homomorphism.
-fn extends(alloc: Global, name: Name, known: &Known, found: &mut Found) -> Result<Option<Asking>, NoMemory>
+fn extends(
+    alloc: Global,
+    name: Name,
+    known: &Known,
+    found: &mut Found,
+) -> Result<Option<Asking>, NoMemory>
     requires known { AreWithin known.now }
     ensures { (scope : Scope) → IsKnown scope known.now →
         IfOk result (λ a. IsQuestionRead scope (has (named_of name.entry) Property.Extends) found.old found.new a) }
@@ -296,7 +346,12 @@ fn extends(alloc: Global, name: Name, known: &Known, found: &mut Found) -> Resul
 }
 
 /// Whether the images of a map generate its target.
-fn onto(alloc: Global, name: Name, known: &Known, found: &mut Found) -> Result<Option<Asking>, NoMemory>
+fn onto(
+    alloc: Global,
+    name: Name,
+    known: &Known,
+    found: &mut Found,
+) -> Result<Option<Asking>, NoMemory>
     requires known { AreWithin known.now }
     ensures { (scope : Scope) → IsKnown scope known.now →
         IfOk result (λ a. IsQuestionRead scope (has (named_of name.entry) Property.Onto) found.old found.new a) }

@@ -101,7 +101,13 @@ impl Resolver {
     }
 
     /// The question of a grant, and the causes that the grant shows.
-    fn granted(&self, name: Name, procedure: Procedure, place: u32, found: &mut Found) -> Option<u32>
+    fn granted(
+        &self,
+        name: Name,
+        procedure: Procedure,
+        place: u32,
+        found: &mut Found,
+    ) -> Option<u32>
         requires { IsSound self.now }
         ensures causes { (scope : ScopeOf) → Keeps scope self.now → Gets (not_a_question (named_of name.entry) (lookup scope.names name.entry.text.now)
             ++ (too_many_searches scope procedure place (lookup scope.names name.entry.text.now) ++ not_applying_to scope procedure place (lookup scope.names name.entry.text.now))) found.old found.new }
@@ -138,7 +144,11 @@ impl Resolver {
     }
 
     /// `grant QUESTION PROCEDURE UNITS`
-    pub(crate) fn grant(&mut self, cursor: &mut Cursor, place: u32) -> Result<Option<Fault>, NoMemory>
+    pub(crate) fn grant(
+        &mut self,
+        cursor: &mut Cursor,
+        place: u32,
+    ) -> Result<Option<Fault>, NoMemory>
         requires sound { IsSound self.old }
         requires ahead { (n : Named) × (p : ProcedureOf) × (units : ℕ) × (cursor.old ≡ a_name n ∷ the_keyword (procedure_keyword p) ∷ the_number units ∷ []) }
         ensures { (scope : ScopeOf) (line : LineOf) (n : Named) (p : ProcedureOf) (units : ℕ) → Keeps scope self.old →
@@ -160,7 +170,13 @@ impl Resolver {
     }
 
     /// The question of a cancel, and the causes that the cancel shows.
-    fn cancelled(&self, name: Name, procedure: Procedure, place: u32, found: &mut Found) -> Option<u32>
+    fn cancelled(
+        &self,
+        name: Name,
+        procedure: Procedure,
+        place: u32,
+        found: &mut Found,
+    ) -> Option<u32>
         requires { IsSound self.now }
         ensures causes { (scope : ScopeOf) → Keeps scope self.now → Gets (not_a_question (named_of name.entry) (lookup scope.names name.entry.text.now)
             ++ not_applying_to scope procedure place (lookup scope.names name.entry.text.now)) found.old found.new }
@@ -173,7 +189,11 @@ impl Resolver {
     }
 
     /// `cancel QUESTION PROCEDURE`
-    pub(crate) fn cancel(&mut self, cursor: &mut Cursor, place: u32) -> Result<Option<Fault>, NoMemory>
+    pub(crate) fn cancel(
+        &mut self,
+        cursor: &mut Cursor,
+        place: u32,
+    ) -> Result<Option<Fault>, NoMemory>
         requires sound { IsSound self.old }
         requires ahead { (n : Named) × (p : ProcedureOf) × (cursor.old ≡ a_name n ∷ the_keyword (procedure_keyword p) ∷ []) }
         ensures { (scope : ScopeOf) (line : LineOf) (n : Named) (p : ProcedureOf) → Keeps scope self.old →

@@ -33,3 +33,9 @@ pub use plan::{
     PlanStep, PlanSteps,
 };
 pub use resolving::{ResolveRefused, resolve};
+
+#[cfg(test)]
+mod tests;
+
+#[cfg(test)]
+mod script_tests;

@@ -18,7 +18,12 @@ use std::alloc::{AllocError, Global};
 
 impl Resolver {
     /// `map NAME : SOURCE -> TARGET = [ ARROWS ]`
-    pub(crate) fn mapping(&mut self, alloc: Global, cursor: &mut Cursor, close: u32) -> Result<Option<Fault>, NoMemory>
+    pub(crate) fn mapping(
+        &mut self,
+        alloc: Global,
+        cursor: &mut Cursor,
+        close: u32,
+    ) -> Result<Option<Fault>, NoMemory>
         requires sound { IsSound self.old }
         requires ahead { (n : Named) × (a : Named) × (b : Named) × (arrows : ListOf ArrowOf) × (cursor.old ≡ tail_of (statement_signs (mapping n a b arrows))) × IsSized (mapping n a b arrows) }
         ensures { (scope : ScopeOf) (line : LineOf) (n : Named) (a : Named) (b : Named) (arrows : ListOf ArrowOf) → Keeps scope self.old → cursor.old ≡ tail_of (statement_signs (mapping n a b arrows)) → close ≡ last_place line.tokens →

@@ -46,7 +46,12 @@ impl Resolver {
     }
 
     /// Declares a name that isn't there.
-    pub(crate) fn declare(&mut self, alloc: Global, name: Name, object: Object) -> Result<(), NoMemory>
+    pub(crate) fn declare(
+        &mut self,
+        alloc: Global,
+        name: Name,
+        object: Object,
+    ) -> Result<(), NoMemory>
         requires { lookup self.old.names name.text.now ≡ None }
         ensures { (scope : ScopeOf) → Keeps scope self.old → OnOk result (Keeps (declaring scope (named_of name.entry) (object_of object)) self.new) }
     {
@@ -68,7 +73,11 @@ impl Resolver {
     }
 
     /// Adds a question whose Ask has so many letters.
-    pub(crate) fn add_question(&mut self, question: PlanQuestion, letters: u64) -> Result<(), NoMemory>
+    pub(crate) fn add_question(
+        &mut self,
+        question: PlanQuestion,
+        letters: u64,
+    ) -> Result<(), NoMemory>
         requires { self.old.letters + letters < 2 ^ 64 }
         ensures { (scope : ScopeOf) (asked : QuestionOf) → Keeps scope self.old → OnOk result (Keeps (with_question scope question asked letters) self.new) }
     {

@@ -26,7 +26,11 @@ use std::alloc::Global;
 
 impl Resolver {
     /// Adds what a line's statement brings, or answers the first cause that it shows.
-    pub(crate) fn statement(&mut self, alloc: Global, line: &ScriptLine) -> Result<Option<Fault>, NoMemory>
+    pub(crate) fn statement(
+        &mut self,
+        alloc: Global,
+        line: &ScriptLine,
+    ) -> Result<Option<Fault>, NoMemory>
         requires sound { IsSound self.old }
         requires line { IsReadLine line.now }
         ensures { (scope : ScopeOf) (s : StatementOf) → Keeps scope self.old → IsNamed line.now s →

@@ -30,7 +30,7 @@ returns c scope w x is e =
     let rest : List Sign = the_keyword keyword.Central ∷ the_keyword keyword.In ∷ a_name x ∷ [] in
     let same = same_end c.args.cursor.now (named_of c.last_name-name.result) x (question_signs (central w x)) c.last_name-name.ensures e (centrality_end w x) in
     let read = word_read scope c.in-Some.place c.home-home.result w c.group.new.found c.word.new.found c.in_ok-word.word (c.home-home.ensures scope is)
-        (c.in_ok-word.ensures.letters w rest e refl) (c.in_ok-word.ensures.causes w rest e refl) in
+    (c.in_ok-word.ensures.letters w rest e refl) (c.in_ok-word.ensures.causes w rest e refl) in
     subst (λ (n : Named). IsQuestionRead scope (central w n) c.args.found.now c.word.new.found (Some (record { group = c.in-Some.place; question = asked.Central c.in_ok-group.group c.in_ok-word.word }))) same
     (centrality_read scope c.args.known.now is (named_of c.last_name-name.result) c.args.found.now w c.group.new.found c.word.new.found c.in-Some.place c.in_ok-word.word c.in_ok-group.group
     c.in-Some.ensures.some

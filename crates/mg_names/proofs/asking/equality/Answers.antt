@@ -35,9 +35,9 @@ returns-then-is_one c scope u v g is e =
     let same = same_end c.args.cursor.now (named_of c.last_name-name.result) g (question_signs (equal u v g)) c.last_name-name.ensures e (equality_end u v g) in
     let ahead : c.skip.new.self ≡ word_signs v ++ right_rest = c.skip.ensures ∙ ap (drop 1) (c.in_ok-left.ensures.rest u left_rest e refl) in
     let left = word_read scope c.in-Some.place c.home-home.result u c.group.new.found c.word.new.found c.in_ok-left.left (c.home-home.ensures scope is)
-        (c.in_ok-left.ensures.letters u left_rest e refl) (c.in_ok-left.ensures.causes u left_rest e refl) in
+    (c.in_ok-left.ensures.letters u left_rest e refl) (c.in_ok-left.ensures.causes u left_rest e refl) in
     let right = word_read scope c.in-Some.place c.home-home.result v c.word.new.found c.word-2.new.found c.in_ok-right.right (c.home-home.ensures scope is)
-        (c.in_ok-right.ensures.letters v right_rest ahead refl) (c.in_ok-right.ensures.causes v right_rest ahead refl) in
+    (c.in_ok-right.ensures.letters v right_rest ahead refl) (c.in_ok-right.ensures.causes v right_rest ahead refl) in
     subst (λ (n : Named). IsQuestionRead scope (equal u v n) c.args.found.now c.word-2.new.found (Some (record { group = c.in-Some.place; question = asked.WordIsOne c.in_ok-group.group c.in_ok-left.left }))) same
     (one_read scope c.args.known.now is (named_of c.last_name-name.result) c.args.found.now u v c.group.new.found c.word.new.found c.word-2.new.found c.in-Some.place c.in_ok-left.left c.in_ok-right.right c.in_ok-group.group
     c.in-Some.ensures.some c.group.ensures.causes left right
@@ -51,9 +51,9 @@ returns c scope u v g is e =
     let same = same_end c.args.cursor.now (named_of c.last_name-name.result) g (question_signs (equal u v g)) c.last_name-name.ensures e (equality_end u v g) in
     let ahead : c.skip.new.self ≡ word_signs v ++ right_rest = c.skip.ensures ∙ ap (drop 1) (c.in_ok-left.ensures.rest u left_rest e refl) in
     let left = word_read scope c.in-Some.place c.home-home.result u c.group.new.found c.word.new.found c.in_ok-left.left (c.home-home.ensures scope is)
-        (c.in_ok-left.ensures.letters u left_rest e refl) (c.in_ok-left.ensures.causes u left_rest e refl) in
+    (c.in_ok-left.ensures.letters u left_rest e refl) (c.in_ok-left.ensures.causes u left_rest e refl) in
     let right = word_read scope c.in-Some.place c.home-home.result v c.word.new.found c.word-2.new.found c.in_ok-right.right (c.home-home.ensures scope is)
-        (c.in_ok-right.ensures.letters v right_rest ahead refl) (c.in_ok-right.ensures.causes v right_rest ahead refl) in
+    (c.in_ok-right.ensures.letters v right_rest ahead refl) (c.in_ok-right.ensures.causes v right_rest ahead refl) in
     subst (λ (n : Named). IsQuestionRead scope (equal u v n) c.args.found.now c.word-2.new.found (Some (record { group = c.in-Some.place; question = asked.WordsEqual c.in_ok-group.group c.in_ok-left.left c.in_ok-right.right }))) same
     (two_read scope c.args.known.now is (named_of c.last_name-name.result) c.args.found.now u v c.group.new.found c.word.new.found c.word-2.new.found c.in-Some.place c.in_ok-left.left c.in_ok-right.right c.in_ok-group.group
     c.in-Some.ensures.some c.group.ensures.causes left right

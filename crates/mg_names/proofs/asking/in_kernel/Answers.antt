@@ -31,7 +31,7 @@ returns c scope w x is e =
     let rest : List Sign = the_keyword keyword.In ∷ the_keyword keyword.Kernel ∷ a_name x ∷ [] in
     let same = same_end c.args.cursor.now (named_of c.last_name-name.result) x (question_signs (vanishes w x)) c.last_name-name.ensures e (kernel_end w x) in
     let read = word_read scope c.in-Some.mapping.source c.home-home.result w c.mapping.new.found c.word.new.found c.in_ok-word.word (c.home-home.ensures scope is)
-        (c.in_ok-word.ensures.letters w rest e refl) (c.in_ok-word.ensures.causes w rest e refl) in
+    (c.in_ok-word.ensures.letters w rest e refl) (c.in_ok-word.ensures.causes w rest e refl) in
     subst (λ (n : Named). IsQuestionRead scope (vanishes w n) c.args.found.now c.word.new.found (Some (record { group = c.in-Some.mapping.target; question = asked.InKernel c.in_ok-target.target c.in_ok-map.map c.in_ok-word.word }))) same
     (kernel_read scope c.args.known.now is (named_of c.last_name-name.result) c.args.found.now w c.mapping.new.found c.word.new.found c.in-Some.mapping.source c.in-Some.mapping.target c.in_ok-map.map c.in_ok-word.word c.in_ok-target.target
     (c.in-Some.ensures.some ∙ ap (λ (ws : List (List ℤ)). Some (a_map c.in-Some.mapping.source c.in-Some.mapping.target ws)) (sym c.in_ok-map.ensures))

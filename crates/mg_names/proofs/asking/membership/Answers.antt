@@ -31,7 +31,7 @@ returns c scope w x is e =
     let rest : List Sign = the_keyword keyword.In ∷ a_name x ∷ [] in
     let same = same_end c.args.cursor.now (named_of c.last_name-name.result) x (question_signs (member w x)) c.last_name-name.ensures e (membership_end w x) in
     let read = word_read scope c.in-Some.subgroup.group c.home-home.result w c.subgroup.new.found c.word.new.found c.in_ok-word.word (c.home-home.ensures scope is)
-        (c.in_ok-word.ensures.letters w rest e refl) (c.in_ok-word.ensures.causes w rest e refl) in
+    (c.in_ok-word.ensures.letters w rest e refl) (c.in_ok-word.ensures.causes w rest e refl) in
     subst (λ (n : Named). IsQuestionRead scope (member w n) c.args.found.now c.word.new.found (Some (record { group = c.in-Some.subgroup.group; question = asked.InSubgroup c.in_ok-group.group c.in_ok-words.words c.in_ok-word.word }))) same
     (membership_read scope c.args.known.now is (named_of c.last_name-name.result) c.args.found.now w c.subgroup.new.found c.word.new.found c.in-Some.subgroup.group c.in_ok-words.words c.in_ok-word.word c.in_ok-group.group
     (c.in-Some.ensures.some ∙ ap (λ (ws : List (List ℤ)). Some (a_subgroup c.in-Some.subgroup.group ws)) (sym c.in_ok-words.ensures))

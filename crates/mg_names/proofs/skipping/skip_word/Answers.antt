@@ -1,4 +1,4 @@
-use Rattle.std.proofs.Common.{◌≡◌, ◌∙◌, ℕ, ◌+◌, ◌≤◌, false, length, sym, ap, arith}
+use Rattle.std.proofs.Common.{◌≡◌, ◌∙◌, ℕ, length, sym, ap, arith}
 use Rattle.mg_names.proofs.Skips.{skipped, behind_word, stays_here, none_left}
 use Rattle.mg_names.proofs.skipping.skip_word.Goals as goal
 

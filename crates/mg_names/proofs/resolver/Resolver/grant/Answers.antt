@@ -22,10 +22,16 @@ add_grant-requires c =
     (c.granted-question.ensures.causes c.requires.sound.scope c.requires.sound.keeps) in
     let none = none_is c.granted-question.new.found c.least.result c.least.ensures (λ f e. c.in_default.not-Some f e) in
     let less : c.in-Some-question.question < length c.requires.sound.scope.plan.questions =
-        subst (λ (p : Plan). c.in-Some-question.question < length p.questions) c.requires.sound.keeps.plan (question_within c.args.self.now c.requires.sound c.name-name.result.text.now c.in-Some-question.question c.in-Some-question.ensures.some) in
-    (c.requires.sound.scope, c.requires.sound.lines, c.requires.sound.keeps, c.requires.sound.within, less, c.args.place,
-     grant_room c.requires.sound.scope c.args.self.now.names (named_of c.name-name.result) c.read_procedure-procedure.result c.args.place c.in-Some-question.question c.granted-question.new.found c.requires.sound.keeps.names
-     c.in-Some-question.ensures.some found none.0)
+    subst (λ (p : Plan). c.in-Some-question.question < length p.questions) c.requires.sound.keeps.plan (question_within c.args.self.now c.requires.sound c.name-name.result.text.now c.in-Some-question.question c.in-Some-question.ensures.some) in (
+      c.requires.sound.scope,
+      c.requires.sound.lines,
+      c.requires.sound.keeps,
+      c.requires.sound.within,
+      less,
+      c.args.place,
+      grant_room c.requires.sound.scope c.args.self.now.names (named_of c.name-name.result) c.read_procedure-procedure.result c.args.place c.in-Some-question.question c.granted-question.new.found c.requires.sound.keeps.names
+          c.in-Some-question.ensures.some found none.0,
+    )
 
 pub returns-in_ok-add_grant : goal.returns-in_ok-add_grant
 returns-in_ok-add_grant c scope line n p units keeps written at =
@@ -34,7 +40,7 @@ returns-in_ok-add_grant c scope line n p units keeps written at =
     let none = none_is c.granted-question.new.found c.least.result c.least.ensures (λ f e. c.in_default.not-Some f e) in
     let count = c.number-units.ensures.read units [] h.2 in
     let less : c.in-Some-question.question < length scope.plan.questions =
-        subst (λ (p : Plan). c.in-Some-question.question < length p.questions) keeps.plan (question_within c.args.self.now c.requires.sound c.name-name.result.text.now c.in-Some-question.question c.in-Some-question.ensures.some) in
+    subst (λ (p : Plan). c.in-Some-question.question < length p.questions) keeps.plan (question_within c.args.self.now c.requires.sound c.name-name.result.text.now c.in-Some-question.question c.in-Some-question.ensures.some) in
     accepted scope line (grant n p units) c.granted-question.new.found c.least.result _
     (grant_least scope line n (named_of c.name-name.result) p c.read_procedure-procedure.result units c.args.place c.granted-question.new.found h.0 h.1 at found) c.least.ensures none.1
     (grant_after scope c.args.self.now.names n (named_of c.name-name.result) p c.read_procedure-procedure.result units c.number-units.result c.in-Some-question.question _ keeps.names h.0 h.1 count.0

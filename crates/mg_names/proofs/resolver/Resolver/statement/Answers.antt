@@ -13,9 +13,11 @@ use Rattle.mg_names.proofs.Signs.{line_signs}
 use Rattle.mg_names.proofs.resolver.Resolver.statement.Goals as goal
 
 pub first_keyword-requires : goal.first_keyword-requires
-first_keyword-requires c =
-    (keyword_of c.requires.line.statement, tail_of (statement_signs c.requires.line.statement),
-     c.of-cursor.ensures ∙ line_signs c.args.line.now c.requires.line.statement c.requires.line.readable c.requires.line.is_named ∙ begins c.requires.line.statement)
+first_keyword-requires c = (
+  keyword_of c.requires.line.statement,
+  tail_of (statement_signs c.requires.line.statement),
+  c.of-cursor.ensures ∙ line_signs c.args.line.now c.requires.line.statement c.requires.line.readable c.requires.line.is_named ∙ begins c.requires.line.statement,
+)
 
 pub returns-in-Group : goal.returns-in-Group
 returns-in-Group c scope s keeps named =
