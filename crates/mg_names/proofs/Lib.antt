@@ -12,6 +12,7 @@ pub mod Askings
 pub mod Causes
 pub mod Declarations
 pub mod Grants
+pub mod Groups
 pub mod Led
 pub mod Lengths
 pub mod Lookups

@@ -302,7 +302,7 @@ map_keeps lines scope is n arrows (Some (a_subgroup home vs)) to object other si
 map_keeps lines scope is n arrows (Some (a_map k j ws)) to object other sized = is
 map_keeps lines scope is n arrows (Some (a_question place)) to object other sized = is
 
-group_keeps : (lines : ℕ) (scope : Scope) → IsScope lines scope → (n : Named) (generators : List Named) (rs : List Relation) → IsSizedGroup (length generators) (length rs) rs
+pub group_keeps : (lines : ℕ) (scope : Scope) → IsScope lines scope → (n : Named) (generators : List Named) (rs : List Relation) → IsSizedGroup (length generators) (length rs) rs
     → IsScope (suc lines) (declaring (with_group scope (declared_group scope n generators rs)) n (a_group (length scope.plan.groups)))
 group_keeps lines scope is n generators rs sized =
     let f : Relation → List ℤ = relator_of scope.names (length scope.plan.groups) (texts generators) in

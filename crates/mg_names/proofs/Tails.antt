@@ -100,7 +100,7 @@ no_factor_star : (f : Factor) → factor_first f ≢ lexeme.Mark mark.Star
 no_factor_star (bare b) = no_base_star b
 no_factor_star (power b negative n) = no_base_star b
 
-stops_at : (ss : List Sign) (x : Lexeme) → first_lexeme ss ≡ Some x → Stops ss → goes_on x ≡ false
+pub stops_at : (ss : List Sign) (x : Lexeme) → first_lexeme ss ≡ Some x → Stops ss → goes_on x ≡ false
 stops_at [] x e h = absurd cc
 stops_at (s ∷ ss) x e h = let same : sign_lexeme s ≡ x = cc in subst (λ (y : Lexeme). goes_on y ≡ false) same h
 

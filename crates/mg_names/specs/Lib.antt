@@ -19,3 +19,4 @@ pub mod Declaring
 pub mod Keeping
 pub mod Printing
 pub mod Turn
+pub mod Grouped

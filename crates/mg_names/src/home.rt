@@ -29,7 +29,7 @@ pub(crate) struct Home<'a> {
 }
 
 /// The place of a text among others.
-fn place_of(texts: &[Text], text: &[u8]) -> Option<usize>
+pub(crate) fn place_of(texts: &[Text], text: &[u8]) -> Option<usize>
     ensures place { result ≡ position (λ t. pointwise nat_eq t text.now) texts.now }
     ensures within { IfSome result (λ i. i < length texts.now) }
 {

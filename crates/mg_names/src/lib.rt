@@ -20,6 +20,7 @@ mod scope;
 mod searches;
 mod skipping;
 mod statements;
+mod texts;
 mod words;
 
 pub use laws::{
