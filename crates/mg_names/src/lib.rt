@@ -27,3 +27,6 @@ pub use plan::{
     PlanStep, PlanSteps,
 };
 pub use resolving::{ResolveRefused, resolve};
+
+#[cfg(test)]
+mod tests;

@@ -60,7 +60,7 @@ fn written_out(
 
 /// Reads the factors of a word.
 #[cycle(product)]
-fn product(
+pub(crate) fn product(
     alloc: Global,
     cursor: &mut Cursor,
     home: &Home,
