@@ -4,6 +4,8 @@ ghost use Rattle.std.specs.Prelude.{◌≡◌, ◌≢◌, ◌↔◌, ◌-◌, �
 ghost use Rattle.mg_lex.specs.Line.{token_bytes};
 ghost use Rattle.mg_names.specs.Name.{named_of};
 ghost use Rattle.mg_names.specs.Sign as spec;
+ghost use Rattle.mg_names.specs.Turn as turns;
+ghost use Rattle.mg_names.specs.Turn.{turn, is_before_turn, IsOneAhead};
 ghost use Rattle.mg_names.specs.Sign.{Sign, a_name, the_number, signs_of, first_lexeme, is_alone, IsInside, IsReadable, StartsWithName, EndsWithName, Stops};
 
 use mg_lex::{Keyword, Mark, Token};
@@ -67,6 +69,17 @@ pub(crate) fn goes_on(lexeme: Lexeme) -> bool
         Lexeme::Name | Lexeme::Number(_) => true,
         Lexeme::Mark(mark) => mark_goes_on(mark),
         Lexeme::Keyword(_) | Lexeme::RelatorSign => false,
+    }
+}
+
+/// Whether the words on the left of a question end before this lexeme.
+fn is_turn(lexeme: Lexeme) -> bool
+    ensures { result ≡ turns.is_turn lexeme }
+{
+    match lexeme {
+        Lexeme::Keyword(_) => true,
+        Lexeme::Mark(mark) => mark == Mark::Equals,
+        Lexeme::Name | Lexeme::Number(_) | Lexeme::RelatorSign => false,
     }
 }
 
@@ -231,6 +244,63 @@ impl<'a> Cursor<'a> {
             [_, next, ..] => !goes_on(*next),
             _ => true,
         }
+    }
+
+    /// Whether the number 1 comes next.
+    fn is_one(&self) -> bool
+        ensures { IsTrue result ↔ (first_lexeme self.now ≡ Some (Lexeme.Number 1)) }
+    {
+        match self.lexeme() {
+            Some(Lexeme::Number(number)) => number == 1,
+            _ => false,
+        }
+    }
+
+    /// Whether the number 1 comes next, and no word goes on behind it.
+    pub(crate) fn is_one_alone(&self) -> bool
+        ensures one { IsTrue result → IsOneAhead self.now }
+        ensures other { IsFalse result → IsOneAhead self.now → ⊥ }
+    {
+        if !self.is_one() {
+            return false;
+        }
+        let mut rest = self.again();
+        rest.skip();
+        !rest.goes_on()
+    }
+
+    /// The same, to look ahead with.
+    fn again(&self) -> Cursor<'a>
+        ensures { result ≡ self.now }
+    {
+        Cursor {
+            bytes: self.bytes,
+            tokens: self.tokens,
+            lexemes: self.lexemes,
+        }
+    }
+
+    /// Whether something comes next that may be part of a word.
+    fn is_before_turn(&self) -> bool
+        ensures before { result ≡ is_before_turn self.now }
+        ensures some { IsTrue result → 1 ≤ length self.now }
+    {
+        match self.lexeme() {
+            Some(lexeme) => !is_turn(lexeme),
+            None => false,
+        }
+    }
+
+    /// What stands from the first keyword or equality sign on.
+    #[tactic(auto, using(crate::proofs::Turns::turn_here, crate::proofs::Turns::turn_later))]
+    pub(crate) fn turn(&self) -> Cursor<'a>
+        ensures { result ≡ turn self.now }
+    {
+        let mut rest = self.again();
+        while rest.is_before_turn() {
+            rest.skip();
+        }
+        rest
     }
 
     /// The name that the line ends with.

@@ -1,10 +1,12 @@
 //! Plans: what a script asks for, once its names are resolved.
 #![tactic(auto)]
 
+mod asking;
 mod checks;
 mod cursor;
 mod granting;
 mod home;
+mod known;
 mod laws;
 mod least;
 mod limits;
