@@ -106,3 +106,7 @@ pub led_plan : (script lines : List ScriptLine) (i : ℕ) (r : Resolver) → lin
 led_plan script lines i r same past led =
     let all : take i lines ≡ script = take_all i lines past ∙ same in
     (led.scope, subst (λ (ls : List ScriptLine). Leads nothing ls led.scope) all led.leads, led.keeps.plan)
+
+pub led_start : (lines : List ScriptLine) (r : Resolver) → Keeps nothing r → IsLedTo (take 0 lines) r
+led_start [] r keeps = led_nothing r keeps
+led_start (line ∷ lines) r keeps = led_nothing r keeps

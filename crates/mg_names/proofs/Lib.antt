@@ -22,5 +22,6 @@ pub mod Scopes
 pub mod Signs
 pub mod Skips
 pub mod Tails
+pub mod Tokens
 pub mod Trees
 pub mod Turns

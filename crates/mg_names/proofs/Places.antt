@@ -15,10 +15,13 @@ use Rattle.mg_present.specs.Ask.{Inquiry}
 use Rattle.mg_script.specs.declared.form.Property.{Property}
 use Rattle.mg_script.specs.declared.form.Property.TheVariants as property
 use Rattle.mg_script.specs.declared.script.ScriptLine.{ScriptLine}
+use Rattle.mg_present.specs.declared.ask.TheConstants.{MOST_GOALS}
+use Rattle.mg_questions.specs.Goals.{goals_of}
+use Rattle.mg_names.specs.declared.limits.TheConstants.{ASK_LETTER_LIMIT}
 use Rattle.mg_names.specs.Plan.{PlanQuestion, Asked, plain}
 use Rattle.mg_names.specs.Named.{Named, Base, named, one, round, commutator, Factor, bare, power, Word, single, times, Relation, relator, equation, Arrow, Question, equal, member, vanishes, central, has, Statement, group, word, subgroup, mapping, ask, fund, grant, run, cancel, report, word_names, relation_names, bar_names, question_names, statement_names, names_in, IsNamed}
 use Rattle.mg_names.specs.Scope.{Scope, Object, a_group, a_word, a_subgroup, a_map, a_question, Declared, lookup, generator_place}
-use Rattle.mg_names.specs.Meaning.{Asking, alone, relations_in, texts, group_at, question_named, is_named, ask_for}
+use Rattle.mg_names.specs.Meaning.{Asking, ask_letters, alone, relations_in, texts, group_at, question_named, is_named, ask_for}
 use Rattle.mg_names.specs.Cause.{Shown, IsFirst, at, taken, taken_if, not_a_group, not_a_subgroup, not_a_map, not_a_question, no_letter, not_a_letter, no_word, in_word, in_relation, is_among, twice, twice_behind, of_group, of_subgroup, of_source, has_all, missing, lefts, last_place, third_place, in_mapping, not_the_subject, in_question, has_long, too_large, too_large_unless, applies, of_asked, not_applying, one_more_is_too_many, too_many_searches, not_applying_to, shown}
 use Rattle.mg_names.proofs.Members.{all_append, all_left, all_right, all_get}
 
@@ -206,7 +209,13 @@ asked_in scope (has n p) h = subject_in p n (lookup scope.names n.text) h.0
 large_in : (scope : Scope) (n : Named) (a : Option Asking) → IsPlace n.place → AreIn (too_large scope n a)
 large_in scope n None h = tt
 large_in scope n (Some a) h =
-    all_append IsIn _ _ (if_in _ (at cause.WordTooLong n.place) (h, tt)) (all_append IsIn _ _ (if_in _ (at cause.TooMany n.place) (h, tt)) (if_in _ (at cause.TooMany n.place) (h, tt)))
+    let long : Bool = has_long (goals_of a.question) in
+    let many : Bool = nat_lt MOST_GOALS (length (goals_of a.question)) in
+    let letters : Bool = nat_lt ASK_LETTER_LIMIT (scope.letters + ask_letters (ask_for a.question)) in
+    let too_many : List Shown = at cause.TooMany n.place in
+    let too_long : List Shown = at cause.WordTooLong n.place in
+    all_append IsIn (if long then too_long else []) ((if many then too_many else []) ++ (if letters then too_many else [])) (if_in long too_long (h, tt))
+    (all_append IsIn (if many then too_many else []) (if letters then too_many else []) (if_in many too_many (h, tt)) (if_in letters too_many (h, tt)))
 
 unless_large_in : (ss : List Shown) (scope : Scope) (n : Named) (a : Option Asking) → IsPlace n.place → AreIn (too_large_unless ss scope n a)
 unless_large_in [] scope n a h = large_in scope n a h
@@ -290,7 +299,7 @@ line_names_in bytes (t ∷ ts) (lexeme.Number n ∷ xs) h = line_names_in bytes 
 line_names_in bytes (t ∷ ts) (lexeme.Mark m ∷ xs) h = line_names_in bytes ts xs h.1
 
 pub first_within : (scope : Scope) (line : ScriptLine) (s : Statement) (f : Shown) → IsNamed line s → AllByRecursion (λ t. t.start < LINE_LIMIT) line.tokens → IsFirst (shown scope line s) f → f.place < LINE_LIMIT
-first_within scope line s f named tokens first =
+first_within scope line s f is_named tokens first =
     let all : AreIn (shown scope line s) = shown_in scope line s (last_token_in line.tokens tokens) (third_token_in line.tokens tokens)
-        (subst AreNamesIn (sym named.names) (line_names_in line.bytes line.tokens line.lexemes tokens)) in
+        (subst AreNamesIn (sym is_named.names) (line_names_in line.bytes line.tokens line.lexemes tokens)) in
     All-contains IsIn (shown scope line s) f (All-from_recursion IsIn (shown scope line s) all) first.among

@@ -4,6 +4,7 @@
 mod asking;
 mod checks;
 mod cursor;
+mod declaring;
 mod granting;
 mod home;
 mod known;
