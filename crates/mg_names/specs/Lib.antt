@@ -14,7 +14,7 @@ pub mod Objects
 pub mod Reads
 pub mod Within
 pub mod Searches
-pub mod Turn
 pub mod Asked
 pub mod Keeping
 pub mod Printing
+pub mod Turn

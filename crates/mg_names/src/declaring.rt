@@ -1,11 +1,10 @@
-//! Declarations of groups, words, subgroups and maps.
+//! Declarations of words and subgroups.
 
-ghost use Rattle.std.specs.Prelude.{◌≡◌, None, Option, List as ListOf, IfOk};
+ghost use Rattle.std.specs.Prelude.{◌≡◌, List as ListOf, IfOk};
 ghost use Rattle.mg_script.specs.declared.script.ScriptLine.{ScriptLine as LineOf};
-ghost use Rattle.mg_names.specs.Cause.{last_place};
 ghost use Rattle.mg_names.specs.Keeping.{Keeps, IsSound, Resolved};
 ghost use Rattle.mg_names.specs.Least.{least_of};
-ghost use Rattle.mg_names.specs.Named.{Named, Word as WordOf, Relation as RelationOf, Arrow as ArrowOf, Question as QuestionOf, group, word, subgroup, mapping, ask};
+ghost use Rattle.mg_names.specs.Named.{Named, Word as WordOf, Question as QuestionOf, word, subgroup, ask};
 ghost use Rattle.mg_names.specs.Scope.{Scope as ScopeOf};
 ghost use Rattle.mg_names.specs.Sign.{statement_signs, tail_of};
 ghost use Rattle.mg_names.specs.Within.{IsSized};
@@ -17,16 +16,6 @@ use mg_lists::NoMemory;
 use std::alloc::{AllocError, Global};
 
 impl Resolver {
-    /// `group NAME = < GENERATORS | RELATIONS >`
-    pub(crate) fn group(&mut self, alloc: Global, cursor: &mut Cursor) -> Result<Option<Fault>, NoMemory>
-        requires sound { IsSound self.old }
-        requires ahead { (n : Named) × (generators : ListOf Named) × (rs : Option (ListOf RelationOf)) × (cursor.old ≡ tail_of (statement_signs (group n generators rs))) × IsSized (group n generators rs) }
-        ensures { (scope : ScopeOf) (line : LineOf) (n : Named) (generators : ListOf Named) (rs : Option (ListOf RelationOf)) → Keeps scope self.old → cursor.old ≡ tail_of (statement_signs (group n generators rs)) →
-            IfOk result (λ fault. Resolved scope line (group n generators rs) (least_of fault) self.new) }
-    {
-        Err(AllocError)
-    }
-
     /// `word NAME in GROUP = WORD`
     pub(crate) fn word(&mut self, alloc: Global, cursor: &mut Cursor) -> Result<Option<Fault>, NoMemory>
         requires sound { IsSound self.old }
@@ -43,16 +32,6 @@ impl Resolver {
         requires ahead { (n : Named) × (g : Named) × (ws : ListOf WordOf) × (cursor.old ≡ tail_of (statement_signs (subgroup n g ws))) × IsSized (subgroup n g ws) }
         ensures { (scope : ScopeOf) (line : LineOf) (n : Named) (g : Named) (ws : ListOf WordOf) → Keeps scope self.old → cursor.old ≡ tail_of (statement_signs (subgroup n g ws)) →
             IfOk result (λ fault. Resolved scope line (subgroup n g ws) (least_of fault) self.new) }
-    {
-        Err(AllocError)
-    }
-
-    /// `map NAME : SOURCE -> TARGET = [ ARROWS ]`
-    pub(crate) fn mapping(&mut self, alloc: Global, cursor: &mut Cursor, close: u32) -> Result<Option<Fault>, NoMemory>
-        requires sound { IsSound self.old }
-        requires ahead { (n : Named) × (a : Named) × (b : Named) × (arrows : ListOf ArrowOf) × (cursor.old ≡ tail_of (statement_signs (mapping n a b arrows))) × IsSized (mapping n a b arrows) }
-        ensures { (scope : ScopeOf) (line : LineOf) (n : Named) (a : Named) (b : Named) (arrows : ListOf ArrowOf) → Keeps scope self.old → cursor.old ≡ tail_of (statement_signs (mapping n a b arrows)) → close ≡ last_place line.tokens →
-            IfOk result (λ fault. Resolved scope line (mapping n a b arrows) (least_of fault) self.new) }
     {
         Err(AllocError)
     }
