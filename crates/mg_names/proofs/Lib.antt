@@ -9,6 +9,7 @@ pub mod Led
 pub mod Lengths
 pub mod Lines
 pub mod Lookups
+pub mod Mappings
 pub mod Members
 pub mod NameKinds
 pub mod Pairs
