@@ -2,7 +2,7 @@
 use Rattle.std.proofs.Common.{◌≡◌, ℕ, ◌+◌, ◌==◌, ◌&&◌, Bool, true, false, cond, if◌then◌else◌, Option, Some, None, List, [], ◌∷◌, ◌++◌, position, nat_eq, refl, sym, ap, ◌∙◌, arith, Vec, IfSome, IfNone}
 use Rattle.std.specs.declared.alloc.Global.{Global}
 use Rattle.std.specs.Cmp.Lexicographic.{pointwise, bytes_decides}
-use Rattle.std.specs.Option.{option_map, option_copied}
+use Rattle.std.specs.Option.{option_map, option_copied, is_some}
 use Rattle.std.specs.List.{position_from}
 use Rattle.std.proofs.lemmas.List.{map-append}
 use Rattle.std.proofs.lemmas.Iterator.Adapters.{position_from-zero}
@@ -110,3 +110,8 @@ place_onward i (g ∷ gs) text =
 pub place_found : (gs : List (List ℕ)) (text : List ℕ) → position (λ (g : List ℕ). pointwise nat_eq g text) gs ≡ generator_place gs text
 place_found gs text =
     position_from-zero (λ (g : List ℕ). pointwise nat_eq g text) gs ∙ (place_onward 0 gs text ∙ onward_zero (generator_place gs text))
+
+-- no place
+pub absent : (o : Option ℕ) → is_some o ≡ false → o ≡ None
+absent None e = refl
+absent (Some i) e = absurd cc

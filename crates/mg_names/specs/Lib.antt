@@ -20,3 +20,4 @@ pub mod Keeping
 pub mod Printing
 pub mod Turn
 pub mod Grouped
+pub mod Mapped

@@ -67,6 +67,15 @@ impl<'a> Home<'a> {
         }
     }
 
+    /// A name that is no generator shows a cause.
+    pub(crate) fn check_generator(&self, name: Name, found: &mut Found)
+        ensures { Gets (not_a_letter self.now.names.now self.now.generators.now (named_of name.entry)) found.old found.new }
+    {
+        if self.generator(name.text).is_none() {
+            found.offer(name.place, self.unknown(name.text));
+        }
+    }
+
     /// The letter that a name in a word stands for. A name that is no generator stands for none.
     pub(crate) fn letter(
         &self,
