@@ -35,7 +35,6 @@ pub use plan::{
 pub use resolving::{ResolveRefused, resolve};
 
 #[cfg(test)]
-mod tests;
-
-#[cfg(test)]
 mod script_tests;
+#[cfg(test)]
+mod tests;

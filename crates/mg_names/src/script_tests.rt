@@ -93,9 +93,11 @@ fn procedures_apply(rt: HostRuntime) -> Result<(), Fail> {
 #[test]
 fn images_are_not_too_long(rt: HostRuntime) -> Result<(), Fail> {
     let alloc = rt.alloc();
-    let within = b"group G = < a >\ngroup X = < x >\nmap f : G -> X = [ a -> x^10000 ]\nask q : a^4 in kernel f\n";
+    let within =
+        b"group G = < a >\ngroup X = < x >\nmap f : G -> X = [ a -> x^10000 ]\nask q : a^4 in kernel f\n";
     assert!(rt; has_steps(alloc, within, 0));
-    let long = b"group G = < a >\ngroup X = < x >\nmap f : G -> X = [ a -> x^10000 ]\nask q : a^5 in kernel f\n";
+    let long =
+        b"group G = < a >\ngroup X = < x >\nmap f : G -> X = [ a -> x^10000 ]\nask q : a^5 in kernel f\n";
     assert!(rt; is_refused(alloc, long, 4, 5, Cause::WordTooLong));
     Ok(())
 }
@@ -103,7 +105,8 @@ fn images_are_not_too_long(rt: HostRuntime) -> Result<(), Fail> {
 #[test]
 fn a_session_has_its_steps(rt: HostRuntime) -> Result<(), Fail> {
     let alloc = rt.alloc();
-    let script = b"group S = < a, b | a^2, b^3, (a b)^2 >\nask q : a b = b a in S\nfund 9\ngrant q derive 5\nrun\nreport\ncancel q derive\n";
+    let script =
+        b"group S = < a, b | a^2, b^3, (a b)^2 >\nask q : a b = b a in S\nfund 9\ngrant q derive 5\nrun\nreport\ncancel q derive\n";
     assert!(rt; has_steps(alloc, script, 5));
     Ok(())
 }
