@@ -12,7 +12,9 @@ use Rattle.mg_names.specs.Named.{Named, Word, word, subgroup, Statement}
 use Rattle.mg_names.specs.Scope.{Scope, Object, a_group, a_word, a_subgroup, a_map, a_question, Declared, lookup}
 use Rattle.mg_names.specs.Meaning.{group_at, value, declaring, declares_word, declares_subgroup, after}
 use Rattle.mg_names.specs.Cause.{Shown, taken, taken_if, not_a_group, of_group, in_word, shown}
-use Rattle.mg_names.specs.Declaring.{word_causes, subgroup_causes, Declares, IsDeclared}
+use Rattle.mg_names.specs.Declaring.{word_causes, subgroup_causes, words_signs, Declares, IsDeclared}
+use Rattle.mg_names.specs.Asked.{IsHome}
+use Rattle.mg_names.specs.declared.home.Home.{Home}
 use Rattle.mg_names.specs.Keeping.{Keeps, IsSound}
 use Rattle.mg_names.specs.Least.{IsLeastOf, Gets}
 use Rattle.mg_names.specs.Objects.{object_of}
@@ -143,3 +145,58 @@ word_keeps scope n m g k w object o new names groups is declares keeps =
 
 pub word_some : (scope : Scope) (m k : Named) (w : Word) (before o : Option Shown) → before ≡ None → Gets (word_causes scope m k w) before o → o ≡ None → word_causes scope m k w ≢ [] → ⊥
 word_some scope m k w before o start gets none some = some (found_none (word_causes scope m k w) o (subst (λ (b : Option Shown). Gets (word_causes scope m k w) b o) start gets) none)
+
+-- subgroups
+pub subgroup_unread : (scope : Scope) (ds : List Declared) (n g : Named) (ws : List Word) (before mid last : Option Shown) → ds ≡ scope.names → Gets (taken_if n (lookup ds n.text)) before mid → Gets (not_a_group g (lookup ds g.text)) mid last
+    → ((k : ℕ) → lookup ds g.text ≢ Some (a_group k)) → IsDeclared scope n (subgroup_causes scope n g ws) (after scope (subgroup n g ws)) before last None
+subgroup_unread scope ds n g ws before mid last e first second other = record {
+  gets = unread_gets scope ds n g (λ place generators. flat_map (in_word scope.names place generators) ws) before mid last e first second other;
+  declares = tt;
+  some = λ none. unread_some scope ds n g (λ place generators. flat_map (in_word scope.names place generators) ws) e other;
+}
+
+pub subgroup_declared : (scope : Scope) (ds : List Declared) (n g : Named) (ws : List Word) (place : ℕ) (us : List (List ℤ)) (before mid next last : Option Shown) → ds ≡ scope.names → lookup ds g.text ≡ Some (a_group place) → Gets (taken_if n (lookup ds n.text)) before mid
+    → Gets (not_a_group g (lookup ds g.text)) mid next → Gets (flat_map (in_word scope.names place (group_at scope place).generators) ws) next last → us ≡ map (value scope.names place (group_at scope place).generators) ws
+    → IsDeclared scope n (subgroup_causes scope n g ws) (after scope (subgroup n g ws)) before last (Some (declared.Subgroup place us))
+subgroup_declared scope ds n g ws place us before mid next last e there first second third letters = record {
+  gets = read_gets scope ds n g (λ k generators. flat_map (in_word scope.names k generators) ws) place before mid next last e there first second third;
+  declares =
+      ap (declares_subgroup scope n ws) (sym (ap (λ (xs : List Declared). lookup xs g.text) e) ∙ there) ∙ ap (λ (vs : List (List ℤ)). declaring scope n (a_subgroup place vs)) (sym letters);
+  some = λ none. absurd cc;
+}
+
+pub carried : (F : List Declared → ℕ → List (List ℕ) → Type 0) (scope : Scope) (place : ℕ) (home : Home) → IsHome scope place home → F home.names.now home.place home.generators.now → F scope.names place (group_at scope place).generators
+carried F scope place home h f =
+    subst (λ (gs : List (List ℕ)). F scope.names place gs) h.generators
+    (subst (λ (k : ℕ). F scope.names k home.generators.now) h.place_is (subst (λ (ds : List Declared). F ds home.place home.generators.now) h.names f))
+
+pub subgroup_head : (old c1 c2 c3 c4 c5 : List Sign) (n m g k : Named) (ws : List Word) → old ≡ a_name m ∷ c1 → c2 ≡ drop 1 c1 → c2 ≡ a_name k ∷ c3 → c4 ≡ drop 1 c3 → c5 ≡ drop 1 c4 → old ≡ tail_of (statement_signs (subgroup n g ws)) → (m ≡ n) × (k ≡ g) × (c5 ≡ words_signs ws)
+subgroup_head old c1 c2 c3 c4 c5 n m g k ws first second third fourth fifth written =
+    let names : m ≡ n = cc in
+    let tail : c1 ≡ the_keyword keyword.Of ∷ a_name g ∷ the_mark mark.Equals ∷ the_mark mark.Less ∷ words_signs ws = cc in
+    let rest : c2 ≡ a_name g ∷ the_mark mark.Equals ∷ the_mark mark.Less ∷ words_signs ws = second ∙ ap (drop 1) tail in
+    let groups : k ≡ g = cc in
+    let last : c3 ≡ the_mark mark.Equals ∷ the_mark mark.Less ∷ words_signs ws = cc in
+    (names, groups, fifth ∙ ap (drop 1) (fourth ∙ ap (drop 1) last))
+
+-- the statement that declares a subgroup
+pub subgroup_least : (scope : Scope) (line : ScriptLine) (n m g k : Named) (ws : List Word) (before o : Option Shown) → before ≡ None → m ≡ n → k ≡ g → Gets (subgroup_causes scope m k ws) before o → IsLeastOf (shown scope line (subgroup n g ws)) o
+subgroup_least scope line n m g k ws before o start names groups gets =
+    found_all (shown scope line (subgroup n g ws)) o
+    (subst (λ (xs : List Shown). Gets xs None o) (ap (λ (x : Named). subgroup_causes scope x k ws) names ∙ ap (λ (x : Named). subgroup_causes scope n x ws) groups)
+    (subst (λ (b : Option Shown). Gets (subgroup_causes scope m k ws) b o) start gets))
+
+pub subgroup_new : (scope : Scope) (ds : List Declared) (m k : Named) (ws : List Word) (before o : Option Shown) → before ≡ None → ds ≡ scope.names → Gets (subgroup_causes scope m k ws) before o → o ≡ None → lookup ds m.text ≡ None
+subgroup_new scope ds m k ws before o start e gets none =
+    new_name scope ds m (not_a_group k (lookup scope.names k.text) ++ of_group scope (λ place generators. flat_map (in_word scope.names place generators) ws) (lookup scope.names k.text)) o e
+    (subst (λ (b : Option Shown). Gets (subgroup_causes scope m k ws) b o) start gets) none
+
+pub subgroup_keeps : (scope : Scope) (n m g k : Named) (ws : List Word) (object : Option Declarable) (o : Declarable) (new : Resolver) → m ≡ n → k ≡ g → object ≡ Some o → Declares scope m (after scope (subgroup m k ws)) object → Keeps (declaring scope m (object_of o)) new
+    → Keeps (after scope (subgroup n g ws)) new
+subgroup_keeps scope n m g k ws object o new names groups is declares keeps =
+    subst (λ (x : Named). Keeps (after scope (subgroup x g ws)) new) names
+    (subst (λ (x : Named). Keeps (after scope (subgroup m x ws)) new) groups
+    (declared_keeps scope m (after scope (subgroup m k ws)) o new (subst (λ (x : Option Declarable). Declares scope m (after scope (subgroup m k ws)) x) is declares) keeps))
+
+pub subgroup_some : (scope : Scope) (m k : Named) (ws : List Word) (before o : Option Shown) → before ≡ None → Gets (subgroup_causes scope m k ws) before o → o ≡ None → subgroup_causes scope m k ws ≢ [] → ⊥
+subgroup_some scope m k ws before o start gets none some = some (found_none (subgroup_causes scope m k ws) o (subst (λ (b : Option Shown). Gets (subgroup_causes scope m k ws) b o) start gets) none)

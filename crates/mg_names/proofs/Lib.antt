@@ -27,3 +27,4 @@ pub mod Skips
 pub mod Tails
 pub mod Tokens
 pub mod Turns
+pub mod WordLists

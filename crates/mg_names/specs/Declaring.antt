@@ -1,12 +1,16 @@
 -- What reading a declaration brings.
-use Rattle.std.specs.Prelude.{◌≡◌, ◌≢◌, ℕ, Option, Some, None, List, [], ◌++◌}
-use Rattle.std.specs.List.{flat_map}
+use Rattle.std.specs.Prelude.{◌≡◌, ◌≢◌, ℕ, ℤ, Option, Some, None, List, [], ◌∷◌, ◌++◌, map}
+use Rattle.std.specs.List.{AllByRecursion, flat_map}
 use Rattle.mg_names.specs.declared.scope.Object.{Object}
+use Rattle.mg_lex.specs.declared.mark.Mark.TheVariants as mark
+use Rattle.mg_names.specs.declared.home.Home.{Home}
 use Rattle.mg_names.specs.Named.{Named, Word}
 use Rattle.mg_names.specs.Scope.{Scope, lookup}
-use Rattle.mg_names.specs.Meaning.{declaring}
+use Rattle.mg_names.specs.Meaning.{value, declaring}
 use Rattle.mg_names.specs.Cause.{Shown, taken, not_a_group, of_group, in_word}
 use Rattle.mg_names.specs.Least.{Gets}
+use Rattle.mg_names.specs.Sign.{Sign, the_mark, listed, word_signs}
+use Rattle.mg_names.specs.Within.{IsSizedWord}
 use Rattle.mg_names.specs.Objects.{object_of}
 
 -- the causes that declarations of a word and of a subgroup show
@@ -30,3 +34,21 @@ pub record IsDeclared (scope : Scope) (n : Named) (causes : List Shown) (end : S
   pub gets : Gets causes before after
   pub declares : Declares scope n end object
   pub some : object ≡ None → causes ≢ []
+
+-- words with commas between them, and the sign that ends them
+abbrev pub words_signs : List Word → List Sign
+words_signs ws = listed (map word_signs ws) ++ the_mark mark.Greater ∷ []
+
+pub record AreWordsAhead (ss : List Sign) : Type 0 where
+  pub words : List Word
+  pub written : ss ≡ words_signs words
+  pub sized : AllByRecursion IsSizedWord words
+
+-- the first of some words have been read
+pub record AreReadUpTo (home : Home) (ws : List Word) (before : Option Shown) (words : List (List ℤ)) (now : List Sign) (after : Option Shown) : Type 0 where
+  pub done : List Word
+  pub left : List Word
+  pub split : ws ≡ done ++ left
+  pub ahead : now ≡ words_signs left
+  pub words_are : words ≡ map (value home.names.now home.place home.generators.now) done
+  pub causes : Gets (flat_map (in_word home.names.now home.place home.generators.now) done) before after
