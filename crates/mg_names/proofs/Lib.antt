@@ -20,3 +20,4 @@ pub mod Turns
 pub mod Askings
 pub mod Alone
 pub mod Skips
+pub mod Large

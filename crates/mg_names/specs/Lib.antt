@@ -18,3 +18,4 @@ pub mod Turn
 pub mod Asked
 pub mod Keeping
 pub mod Printing
+pub mod Sized

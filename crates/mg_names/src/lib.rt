@@ -15,6 +15,7 @@ mod resolver;
 mod resolving;
 mod scope;
 mod searches;
+mod sizing;
 mod skipping;
 mod statements;
 mod words;
