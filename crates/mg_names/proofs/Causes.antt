@@ -1,10 +1,19 @@
 -- Causes that are found, by the tests that find them.
 use Rattle.std.proofs.Common.{◌≡◌, ◌≢◌, ℕ, Bool, true, false, Option, Some, None, List, [], ◌∷◌, ◌++◌, refl, sym, ap, subst, ◌∙◌}
 use Rattle.std.specs.Prelude.{if◌then◌else◌}
-use Rattle.mg_names.specs.Cause.{Shown, IsFirst, not_a_question}
-use Rattle.mg_names.specs.Least.{IsLeastOf, Gets}
-use Rattle.mg_names.specs.Named.{Named}
-use Rattle.mg_names.specs.Scope.{Object, a_group, a_word, a_subgroup, a_map, a_question}
+use Rattle.mg_lex.specs.declared.refusal.Cause.TheVariants as cause
+use Rattle.mg_words.specs.declared.procedure.Procedure.{Procedure}
+use Rattle.mg_present.specs.Ask.{Inquiry}
+use Rattle.mg_script.specs.declared.script.ScriptLine.{ScriptLine}
+use Rattle.mg_names.specs.declared.least.Fault.{Fault}
+use Rattle.mg_names.specs.declared.resolver.Resolver.{Resolver}
+use Rattle.mg_names.specs.Plan.{PlanQuestion, Asked, plain}
+use Rattle.mg_names.specs.Meaning.{after}
+use Rattle.mg_names.specs.Keeping.{Keeps, Resolved}
+use Rattle.mg_names.specs.Cause.{Shown, IsFirst, at, applies, of_asked, not_applying, not_a_question, shown}
+use Rattle.mg_names.specs.Least.{IsLeastOf, Gets, least_of}
+use Rattle.mg_names.specs.Named.{Named, Statement}
+use Rattle.mg_names.specs.Scope.{Scope, Object, a_group, a_word, a_subgroup, a_map, a_question}
 use Rattle.mg_names.proofs.Leasts.{gets_none}
 use Rattle.mg_names.proofs.Members.{none_left}
 
@@ -36,3 +45,29 @@ question_there n (Some (a_word k w)) others e other = cc
 question_there n (Some (a_subgroup k ws)) others e other = cc
 question_there n (Some (a_map j k ws)) others e other = cc
 question_there n (Some (a_question q)) others e other = other q refl
+
+not_applying_head : (p : Procedure) (place : ℕ) (a : Asked) (b : Bool) → ((ask : Inquiry) → a ≡ plain ask → b ≡ applies p ask) → b ≡ false → of_asked p place a ≡ at cause.ProcedureDoesNotApply place
+not_applying_head p place (plain ask) b says e = ap (λ (x : Bool). if x then [] else at cause.ProcedureDoesNotApply place) (sym (says ask refl) ∙ e)
+
+pub not_applying_gets : (p : Procedure) (place : ℕ) (o : Option PlanQuestion) (q : PlanQuestion) (b : Bool) → o ≡ Some q → ((ask : Inquiry) → q.asked ≡ plain ask → b ≡ applies p ask) → b ≡ false
+    → (before after : Option Shown) → Gets (at cause.ProcedureDoesNotApply place) before after → Gets (not_applying p place o) before after
+not_applying_gets p place o q b there says e before after h =
+    gets_of (not_applying p place o) (at cause.ProcedureDoesNotApply place) before after (ap (not_applying p place) there ∙ not_applying_head p place q.asked b says e) h
+
+-- a statement that shows a cause, and one that shows none
+pub refused : (scope : Scope) (line : ScriptLine) (s : Statement) (o : Option Shown) (result : Option Fault) (f : Fault) (new : Resolver) → IsLeastOf (shown scope line s) o → least_of result ≡ o → result ≡ Some f → Resolved scope line s (least_of (Some f)) new
+refused scope line s o result f new least e is = record {
+  shows = subst (λ (p : Option Shown). IsLeastOf (shown scope line s) p) (sym e ∙ ap least_of is) least;
+  keeps = λ none. absurd cc;
+}
+
+pub accepted : (scope : Scope) (line : ScriptLine) (s : Statement) (o : Option Shown) (result : Option Fault) (new : Resolver) → IsLeastOf (shown scope line s) o → least_of result ≡ o → result ≡ None → Keeps (after scope s) new → Resolved scope line s (least_of None) new
+accepted scope line s o result new least e is keeps = record {
+  shows = subst (λ (p : Option Shown). IsLeastOf (shown scope line s) p) (sym e ∙ ap least_of is) least;
+  keeps = λ none. keeps;
+}
+
+-- nothing is found where nothing is answered
+pub none_is : (o : Option Shown) (result : Option Fault) → least_of result ≡ o → ((f : Fault) → result ≡ Some f → ⊥) → (o ≡ None) × (result ≡ None)
+none_is o None e other = (sym e, refl)
+none_is o (Some f) e other = absurd (other f refl)

@@ -14,8 +14,8 @@ pub mod Objects
 pub mod Reads
 pub mod Within
 pub mod Searches
-pub mod Turn
 pub mod Asked
 pub mod Keeping
 pub mod Printing
 pub mod Sized
+pub mod Turn

@@ -187,3 +187,8 @@ mark_behind n _ = n
 abbrev pub depth_behind : ℕ → Lexeme → ℕ
 depth_behind n (lexeme.Mark m) = mark_behind n m
 depth_behind n _ = n
+
+-- what stands behind the first
+abbrev pub tail_of : List Sign → List Sign
+tail_of [] = []
+tail_of (s ∷ ss) = ss

@@ -4,12 +4,15 @@
 mod asking;
 mod checks;
 mod cursor;
+mod declaring;
 mod granting;
+mod grouping;
 mod home;
 mod known;
 mod laws;
 mod least;
 mod limits;
+mod mapping;
 mod plan;
 mod resolver;
 mod resolving;

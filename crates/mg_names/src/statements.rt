@@ -4,7 +4,7 @@ ghost use Rattle.std.specs.Prelude.{◌≡◌, ◌∷◌, [], ℕ, None, Option,
 ghost use Rattle.mg_lex.specs.declared.keyword.Keyword.{Keyword as KeywordOf};
 ghost use Rattle.mg_script.specs.declared.form.Printed.{Printed as PrintedOf};
 ghost use Rattle.mg_script.specs.declared.script.ScriptLine.{ScriptLine as LineOf};
-ghost use Rattle.mg_names.specs.Cause.{third_place as place_of_third};
+ghost use Rattle.mg_names.specs.Cause.{last_place as place_of_last, third_place as place_of_third};
 ghost use Rattle.mg_names.specs.Keeping.{Keeps, IsSound, Resolved};
 ghost use Rattle.mg_names.specs.Least.{least_of};
 ghost use Rattle.mg_names.specs.Printing.{printed_step};
@@ -22,7 +22,7 @@ use mg_lex::{Keyword, Token};
 use mg_lists::NoMemory;
 use mg_script::ScriptLine;
 use mg_terms::Lexeme;
-use std::alloc::{AllocError, Global};
+use std::alloc::Global;
 
 impl Resolver {
     /// Adds what a line's statement brings, or answers the first cause that it shows.
@@ -35,12 +35,17 @@ impl Resolver {
         let mut cursor = Cursor::of(line);
         let tokens = line.tokens.as_slice();
         match first_keyword(&mut cursor) {
+            Keyword::Group => self.group(alloc, &mut cursor),
+            Keyword::Word => self.word(alloc, &mut cursor),
+            Keyword::Subgroup => self.subgroup(alloc, &mut cursor),
+            Keyword::Map => self.mapping(alloc, &mut cursor, last_place(tokens)),
+            Keyword::Ask => self.ask(alloc, &mut cursor),
             Keyword::Fund => self.fund(&mut cursor),
-            Keyword::Run => self.run(&mut cursor),
-            Keyword::Report => self.report(&mut cursor),
             Keyword::Grant => self.grant(&mut cursor, third_place(tokens)),
+            Keyword::Run => self.run(&mut cursor),
             Keyword::Cancel => self.cancel(&mut cursor, third_place(tokens)),
-            _ => Err(AllocError),
+            Keyword::Report => self.report(&mut cursor),
+            _ => unreachable!(),
         }
     }
 
@@ -112,6 +117,16 @@ fn read_bound(cursor: &mut Cursor) -> Option<u64>
     match cursor.lexeme() {
         Some(_) => Some(cursor.number()),
         None => None,
+    }
+}
+
+/// Where the last token begins.
+fn last_place(tokens: &[Token]) -> u32
+    ensures { result ≡ place_of_last tokens.now }
+{
+    match tokens {
+        [.., token] => token.start,
+        [] => 0,
     }
 }
 
