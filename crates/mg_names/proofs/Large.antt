@@ -4,7 +4,7 @@ use Rattle.std.specs.Prelude.{if◌then◌else◌, nat_lt, slice_index_or, Conta
 use Rattle.std.specs.List.{AllByRecursion, AllZip}
 use Rattle.std.proofs.lemmas.List.{length-append, length-map}
 use Rattle.std.proofs.lemmas.List.Elements.{Contains-push}
-use Rattle.std.proofs.lemmas.Bool.Decides.{ltb-false}
+use Rattle.std.proofs.lemmas.Bool.{ltb-false, ltb-true, lt-ltb}
 use Rattle.mg_lex.specs.declared.refusal.Cause.TheVariants as cause
 use Rattle.mg_words.specs.Word.{IsOver, inv}
 use Rattle.mg_words.specs.Reduction.{IsFormOf}
@@ -82,23 +82,16 @@ has_long_rest : (b : Bool) (rest : Bool) → rest ≡ true → (if b then true e
 has_long_rest true rest e = refl
 has_long_rest false rest e = e
 
-ltb-true : (a b : ℕ) → a < b → nat_lt a b ≡ true
-ltb-true a b h = by_less (nat_lt a b) refl
-  where
-    by_less : (r : Bool) → nat_lt a b ≡ r → nat_lt a b ≡ true
-    by_less true e = e
-    by_less false e = absurd (let k = ltb-false a b e in omega (arith, k, h))
-
 ltb-not : (a b : ℕ) → b ≤ a → nat_lt a b ≡ false
 ltb-not a b h = by_less (nat_lt a b) refl
   where
     by_less : (r : Bool) → nat_lt a b ≡ r → nat_lt a b ≡ false
     by_less false e = e
-    by_less true e = absurd (let k : a < b = cc in omega (arith, k, h))
+    by_less true e = absurd (let k = ltb-true a b e in omega (arith, k, h))
 
 pub long_there : (ws : List (List ℤ)) (i : ℕ) → i < length ws → MOST_GOAL_LETTERS < length (slice_index_or ws i []) → has_long ws ≡ true
 long_there [] i h k = absurd (omega (arith, h))
-long_there (w ∷ ws) zero h k = has_long_if (nat_lt MOST_GOAL_LETTERS (length w)) (has_long ws) (ltb-true MOST_GOAL_LETTERS (length w) k)
+long_there (w ∷ ws) zero h k = has_long_if (nat_lt MOST_GOAL_LETTERS (length w)) (has_long ws) (lt-ltb MOST_GOAL_LETTERS (length w) k)
 long_there (w ∷ ws) (suc i) h k = has_long_rest (nat_lt MOST_GOAL_LETTERS (length w)) (has_long ws) (long_there ws i (omega (arith, h)) k)
 
 pub none_long : (ws : List (List ℤ)) → AllByRecursion (λ w. length w ≤ MOST_GOAL_LETTERS) ws → has_long ws ≡ false
@@ -111,13 +104,13 @@ sizes long many letters place =
     (if long then at cause.WordTooLong place else []) ++ ((if many then at cause.TooMany place else []) ++ (if letters then at cause.TooMany place else []))
 
 first_long : (many letters : Bool) (place : ℕ) → IsFirst (sizes true many letters place) (record { place = place; cause = cause.WordTooLong })
-first_long true true place = record { among = (0, omega arith, refl); least = (inr (refl, omega arith), inr (refl, omega arith), inr (refl, omega arith), tt) }
-first_long true false place = record { among = (0, omega arith, refl); least = (inr (refl, omega arith), inr (refl, omega arith), tt) }
-first_long false true place = record { among = (0, omega arith, refl); least = (inr (refl, omega arith), inr (refl, omega arith), tt) }
+first_long true true place = record { among = (0, omega arith, refl); least = (inr (refl, omega arith), (inr (refl, omega arith), (inr (refl, omega arith), tt))) }
+first_long true false place = record { among = (0, omega arith, refl); least = (inr (refl, omega arith), (inr (refl, omega arith), tt)) }
+first_long false true place = record { among = (0, omega arith, refl); least = (inr (refl, omega arith), (inr (refl, omega arith), tt)) }
 first_long false false place = record { among = (0, omega arith, refl); least = (inr (refl, omega arith), tt) }
 
 first_many : (letters : Bool) (place : ℕ) → IsFirst (sizes false true letters place) (record { place = place; cause = cause.TooMany })
-first_many true place = record { among = (0, omega arith, refl); least = (inr (refl, omega arith), inr (refl, omega arith), tt) }
+first_many true place = record { among = (0, omega arith, refl); least = (inr (refl, omega arith), (inr (refl, omega arith), tt)) }
 first_many false place = record { among = (0, omega arith, refl); least = (inr (refl, omega arith), tt) }
 
 first_letters : (place : ℕ) → IsFirst (sizes false false true place) (record { place = place; cause = cause.TooMany })
@@ -188,7 +181,7 @@ first_of [] e = absurd cc
 first_of (w ∷ ws) e = by_long (nat_lt MOST_GOAL_LETTERS (length w)) refl e (first_of ws)
   where
     by_long : (b : Bool) → nat_lt MOST_GOAL_LETTERS (length w) ≡ b → (if b then true else has_long ws) ≡ true → (has_long ws ≡ true → IsFirstLong ws) → IsFirstLong (w ∷ ws)
-    by_long true is f rest = record { place = 0; within = omega arith; long = cc; first = λ earlier h. absurd (omega (arith, h)) }
+    by_long true is f rest = record { place = 0; within = omega arith; long = ltb-true MOST_GOAL_LETTERS (length w) is; first = λ earlier h. absurd (omega (arith, h)) }
     by_long false is f rest =
         let r = rest f in
         record { place = suc r.place; within = let h = r.within in omega (arith, h); long = r.long; first = before r (ltb-false MOST_GOAL_LETTERS (length w) is) }
@@ -203,7 +196,7 @@ not_many goals no_many = by_less (nat_lt MOST_GOALS (length goals)) refl
   where
     by_less : (r : Bool) → nat_lt MOST_GOALS (length goals) ≡ r → nat_lt MOST_GOALS (length goals) ≡ false
     by_less false e = e
-    by_less true e = absurd (no_many (length goals) (record { all = refl; many = cc }))
+    by_less true e = absurd (no_many (length goals) (record { all = refl; many = ltb-true MOST_GOALS (length goals) e }))
 
 pub not_long : (goals : List (List ℤ)) → nat_lt MOST_GOALS (length goals) ≡ false → ((goal letters : ℕ) → IsFirstTooLong goals goal letters → ⊥) → has_long goals ≡ false
 not_long goals few no_long = by_long (has_long goals) refl
@@ -242,7 +235,7 @@ module _ (scope : Scope) (n : Named) (a : Asking) (q : Question) (same : content
       let e : goals_of q ≡ goals_of a.question = goals_agree q a.question same in
       let many : MOST_GOALS < length (goals_of q) = omega (arith, h.all, h.many) in
       is_many scope n a (subst (λ (gs : List (List ℤ)). has_long gs ≡ false) e (many_short q fit presented many))
-      (subst (λ (gs : List (List ℤ)). nat_lt MOST_GOALS (length gs) ≡ true) e (ltb-true MOST_GOALS (length (goals_of q)) many))
+      (subst (λ (gs : List (List ℤ)). nat_lt MOST_GOALS (length gs) ≡ true) e (lt-ltb MOST_GOALS (length (goals_of q)) many))
 
   pub long_answer : (goal letters : ℕ) → IsFirstTooLong (goals_of q) goal letters → IsFirst (too_large scope n (Some a)) (record { place = n.place; cause = cause.WordTooLong })
   long_answer goal letters h =
@@ -270,4 +263,4 @@ module _ (scope : Scope) (n : Named) (a : Asking) (q : Question) (same : content
     pub full_answer : ASK_LETTER_LIMIT - letters < ask_letters ask → IsFirst (too_large scope n (Some a)) (record { place = n.place; cause = cause.TooMany })
     full_answer h =
         let k : ask_letters ask ≡ ask_letters (ask_for a.question) = ap ask_letters asked in
-        is_full scope n a not_too_long not_too_many (ltb-true ASK_LETTER_LIMIT (scope.letters + ask_letters (ask_for a.question)) (omega (arith, h, k, few, before)))
+        is_full scope n a not_too_long not_too_many (lt-ltb ASK_LETTER_LIMIT (scope.letters + ask_letters (ask_for a.question)) (omega (arith, h, k, few, before)))

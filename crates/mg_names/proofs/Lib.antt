@@ -26,3 +26,4 @@ pub mod Large
 pub mod Tails
 pub mod Tokens
 pub mod Turns
+pub mod Adding

@@ -4,7 +4,7 @@ ghost use Rattle.std.specs.Prelude.{◌≡◌, List as ListOf, IfOk};
 ghost use Rattle.mg_script.specs.declared.script.ScriptLine.{ScriptLine as LineOf};
 ghost use Rattle.mg_names.specs.Keeping.{Keeps, IsSound, Resolved};
 ghost use Rattle.mg_names.specs.Least.{least_of};
-ghost use Rattle.mg_names.specs.Named.{Named, Word as WordOf, Question as QuestionOf, word, subgroup, ask};
+ghost use Rattle.mg_names.specs.Named.{Named, Word as WordOf, word, subgroup};
 ghost use Rattle.mg_names.specs.Scope.{Scope as ScopeOf};
 ghost use Rattle.mg_names.specs.Sign.{statement_signs, tail_of};
 ghost use Rattle.mg_names.specs.Within.{IsSized};
@@ -32,16 +32,6 @@ impl Resolver {
         requires ahead { (n : Named) × (g : Named) × (ws : ListOf WordOf) × (cursor.old ≡ tail_of (statement_signs (subgroup n g ws))) × IsSized (subgroup n g ws) }
         ensures { (scope : ScopeOf) (line : LineOf) (n : Named) (g : Named) (ws : ListOf WordOf) → Keeps scope self.old → cursor.old ≡ tail_of (statement_signs (subgroup n g ws)) →
             IfOk result (λ fault. Resolved scope line (subgroup n g ws) (least_of fault) self.new) }
-    {
-        Err(AllocError)
-    }
-
-    /// `ask NAME : QUESTION`
-    pub(crate) fn ask(&mut self, alloc: Global, cursor: &mut Cursor) -> Result<Option<Fault>, NoMemory>
-        requires sound { IsSound self.old }
-        requires ahead { (n : Named) × (q : QuestionOf) × (cursor.old ≡ tail_of (statement_signs (ask n q))) × IsSized (ask n q) }
-        ensures { (scope : ScopeOf) (line : LineOf) (n : Named) (q : QuestionOf) → Keeps scope self.old → cursor.old ≡ tail_of (statement_signs (ask n q)) →
-            IfOk result (λ fault. Resolved scope line (ask n q) (least_of fault) self.new) }
     {
         Err(AllocError)
     }

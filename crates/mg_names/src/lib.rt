@@ -14,6 +14,7 @@ mod least;
 mod limits;
 mod mapping;
 mod plan;
+mod questions;
 mod resolver;
 mod resolving;
 mod scope;
@@ -21,6 +22,7 @@ mod searches;
 mod sizing;
 mod skipping;
 mod statements;
+mod texts;
 mod words;
 
 pub use laws::{
