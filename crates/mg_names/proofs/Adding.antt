@@ -148,20 +148,6 @@ keeps_known scope r known keeps names groups = record {
 pub sound_within : (r : Resolver) (known : Known) → IsSound r → known.names.now ≡ r.names → known.groups.now ≡ r.plan.groups → AreWithin known
 sound_within r known sound names groups = record { scope = sound.scope; lines = sound.lines; is = keeps_known sound.scope r known sound.keeps names groups; within = sound.within }
 
--- the statement
-pub not_taken : (n : Named) (o : Option Object) → taken_if n o ≡ [] → o ≡ None
-not_taken n None e = refl
-not_taken n (Some object) e = absurd cc
-
-pub added : (scope : Scope) (n : Named) (o : Option Asking) (addition : Addition) (new : Resolver) → IsToAdd scope o (Some addition) → ((a : Asking) → IsToAdd scope (Some a) (Some addition) → Keeps (declares_question scope n (Some a)) new) →
-    Keeps (declares_question scope n o) new
-added scope n None addition new to_add keeps = absurd to_add
-added scope n (Some a) addition new to_add keeps = keeps a to_add
-
-pub unchanged : (scope : Scope) (n : Named) (o : Option Asking) (r : Resolver) → IsToAdd scope o None → Keeps scope r → Keeps (declares_question scope n o) r
-unchanged scope n None r to_add keeps = keeps
-unchanged scope n (Some a) r to_add keeps = absurd to_add
-
 -- what is answered of a size, by the answer's kind
 pub sized_as : (scope : Scope) (n : Named) (a : Asking) (sizing kind : Sizing) → sizing ≡ kind → IsSizing scope n a sizing → IsSizing scope n a kind
 sized_as scope n a sizing kind e h = subst (IsSizing scope n a) e h

@@ -27,3 +27,4 @@ pub mod Tails
 pub mod Tokens
 pub mod Turns
 pub mod Adding
+pub mod Adds
