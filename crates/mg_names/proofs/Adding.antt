@@ -1,5 +1,5 @@
 -- A question that is asked, with the causes that it shows.
-use Rattle.std.proofs.Common.{◌≡◌, ◌≢◌, ℕ, zero, suc, ◌+◌, ◌<◌, ◌≤◌, ◌⊎◌, inl, inr, ⊎_elim, Option, Some, None, List, [], ◌∷◌, ◌++◌, Contains, refl, sym, ap, subst, ◌∙◌, append-nil, arith}
+use Rattle.std.proofs.Common.{◌≡◌, ◌≢◌, ℕ, zero, suc, ◌+◌, ◌<◌, ◌≤◌, ◌⊎◌, inl, inr, ⊎_elim, Result, Ok, Err, IfOk, Option, Some, None, List, [], ◌∷◌, ◌++◌, Contains, refl, sym, ap, subst, ◌∙◌, append-nil, arith}
 use Rattle.std.specs.Prelude.{IfSome}
 use Rattle.std.specs.List.{AllByRecursion}
 use Rattle.std.proofs.lemmas.List.Elements.{Contains-append_left, Contains-append_right, Contains-append_cases}
@@ -99,6 +99,12 @@ module _ (scope : Scope) (n : Named) (q : Question) (before after : Option Shown
         to_add = h.1;
       }
 
+  pub words_answered : {E : Type 0} (r : Result (Option Addition) E) (in_words : Option Shown) (asking : declared.Asking) → IsQuestionRead scope q None in_words (Some asking) → in_words ≡ None →
+      ((a : Asking) → IsSameAsking a asking → IfOk r (λ addition. Gets (too_large scope n (Some a)) before after × (after ≡ None → IsToAdd scope (Some a) addition))) →
+      IfOk r (λ addition. IsAskRead scope n q before after addition)
+  words_answered (Ok addition) in_words asking read e sized = words_accepted in_words asking addition read e sized
+  words_answered (Err x) in_words asking read e sized = tt
+
 -- nothing is named
 nothing_large : (scope : Scope) (n : Named) (o : Option Asking) → IsAnswer o None → too_large scope n o ≡ []
 nothing_large scope n None same = refl
@@ -155,3 +161,6 @@ sized_as scope n a sizing kind e h = subst (IsSizing scope n a) e h
 -- a question that is read before any cause is found
 pub read_from : (scope : Scope) (q : Question) (before after : Option Shown) (asking : Option declared.Asking) → before ≡ None → IsQuestionRead scope q before after asking → IsQuestionRead scope q None after asking
 read_from scope q before after asking e read = subst (λ (o : Option Shown). IsQuestionRead scope q o after asking) e read
+
+pub read_as : (scope : Scope) (q : Question) (before after : Option Shown) (asking kind : Option declared.Asking) → asking ≡ kind → IsQuestionRead scope q before after asking → IsQuestionRead scope q before after kind
+read_as scope q before after asking kind e read = subst (IsQuestionRead scope q before after) e read

@@ -20,7 +20,6 @@ ghost use Rattle.mg_names.specs.declared.limits.TheConstants.{ASK_LETTER_LIMIT};
 
 use crate::asking::{Asking, read_question};
 use crate::cursor::{Cursor, Name};
-use crate::known::Known;
 use crate::least::{Fault, Found};
 use crate::plan::{Asked, PlanQuestion};
 use crate::resolver::Resolver;
@@ -67,10 +66,7 @@ impl Resolver {
         ensures { (scope : ScopeOf) (q : QuestionTree) → Keeps scope self.now → cursor.old ≡ question_signs q →
             IfOk result (λ addition. IsAskRead scope (named_of name.entry) q found.old found.new addition) }
     {
-        let known = Known {
-            names: &self.names,
-            groups: &self.plan.groups,
-        };
+        let known = self.known();
         let mut in_words = Found::new();
         let asking = read_question(alloc, cursor, &known, &mut in_words)?;
         if let Some(fault) = in_words.least() {
