@@ -35,7 +35,7 @@ pub all_after-append : (s : Shown) (xs ys : List Shown) → AllAfter s xs → Al
 all_after-append s [] ys h k = k
 all_after-append s (x ∷ xs) ys h k = (h.0, all_after-append s xs ys h.1 k)
 
-all_after-less : (r s : Shown) (xs : List Shown) → IsNotAfter r s → AllAfter s xs → AllAfter r xs
+pub all_after-less : (r s : Shown) (xs : List Shown) → IsNotAfter r s → AllAfter s xs → AllAfter r xs
 all_after-less r s [] h k = tt
 all_after-less r s (x ∷ xs) h k = (not_after-trans r s x h k.0, all_after-less r s xs h k.1)
 

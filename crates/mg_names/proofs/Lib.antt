@@ -24,8 +24,11 @@ pub mod Refusals
 pub mod Scopes
 pub mod Signs
 pub mod Skips
+pub mod Large
 pub mod Tails
 pub mod Tokens
 pub mod Trees
 pub mod Turns
 pub mod WordLists
+pub mod Adding
+pub mod Adds

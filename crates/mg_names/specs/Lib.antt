@@ -18,6 +18,7 @@ pub mod Asked
 pub mod Declaring
 pub mod Keeping
 pub mod Printing
+pub mod Sized
 pub mod Turn
 pub mod Grouped
 pub mod Mapped

@@ -10,7 +10,7 @@ ghost use Rattle.mg_names.specs.Least.{Gets, least_of};
 ghost use Rattle.std.specs.List.{flat_map};
 ghost use Rattle.mg_names.specs.Meaning.{after, value};
 ghost use Rattle.mg_names.specs.Name.{named_of};
-ghost use Rattle.mg_names.specs.Named.{Named, Word as WordOf, Question as QuestionOf, word, subgroup, ask};
+ghost use Rattle.mg_names.specs.Named.{Named, Word as WordOf, word, subgroup};
 ghost use Rattle.mg_names.specs.Scope.{Scope as ScopeOf};
 ghost use Rattle.mg_names.specs.Sign.{statement_signs, tail_of, word_signs, the_mark, listed_on};
 ghost use Rattle.mg_names.specs.Within.{IsSized, IsSizedWord};
@@ -25,7 +25,7 @@ use crate::words::word;
 use mg_lex::Mark;
 use mg_lists::NoMemory;
 use mg_words::Words;
-use std::alloc::{AllocError, Global};
+use std::alloc::Global;
 
 impl Resolver {
     /// The names and the groups.
@@ -145,20 +145,6 @@ impl Resolver {
             self.declare(alloc, name, object)?;
         }
         Ok(None)
-    }
-
-    /// `ask NAME : QUESTION`
-    pub(crate) fn ask(
-        &mut self,
-        alloc: Global,
-        cursor: &mut Cursor,
-    ) -> Result<Option<Fault>, NoMemory>
-        requires sound { IsSound self.old }
-        requires ahead { (n : Named) × (q : QuestionOf) × (cursor.old ≡ tail_of (statement_signs (ask n q))) × IsSized (ask n q) }
-        ensures { (scope : ScopeOf) (line : LineOf) (n : Named) (q : QuestionOf) → Keeps scope self.old → cursor.old ≡ tail_of (statement_signs (ask n q)) →
-            IfOk result (λ fault. Resolved scope line (ask n q) (least_of fault) self.new) }
-    {
-        Err(AllocError)
     }
 }
 
