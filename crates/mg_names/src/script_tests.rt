@@ -123,32 +123,35 @@ const B: Letter = Letter {
     inverse: false,
 };
 
-// Whether the relator at the place in the first group is this word.
+// Whether the relator at the place in the first group of the script is this word.
 fn has_relator(
     alloc: Global,
-    plan: &Plan,
+    bytes: &[u8],
     place: usize,
     letters: &[Letter],
-) -> Result<bool, NoMemory> {
+) -> Result<bool, NoMemory>
+    requires { length bytes.now < 2 ^ 32 - 1 }
+{
     let expected = Word::from_letters(alloc, letters)?;
-    match plan.groups.as_slice() {
-        [group, ..] => match group.group.relators().as_slice().get(place) {
-            Some(relator) => Ok(*relator == expected),
-            None => Ok(false),
-        },
-        _ => Ok(false),
+    let Some(plan) = plan_of(alloc, bytes) else {
+        return Ok(false);
+    };
+    let [group, ..] = plan.groups.as_slice() else {
+        return Ok(false);
+    };
+    match group.group.relators().as_slice().get(place) {
+        Some(relator) => Ok(*relator == expected),
+        None => Ok(false),
     }
 }
 
 #[test]
 fn relators_are_written_out(rt: HostRuntime) -> Result<(), Fail> {
     let alloc = rt.alloc();
-    let Some(plan) = plan_of(alloc, b"group S3 = < a, b | a^2, b^3, (a b)^2 >") else {
-        return Err(Fail);
-    };
-    assert!(rt; has_relator(alloc, &plan, 0, &[A, A])?);
-    assert!(rt; has_relator(alloc, &plan, 1, &[B, B, B])?);
-    assert!(rt; has_relator(alloc, &plan, 2, &[A, B, A, B])?);
+    let group = b"group S3 = < a, b | a^2, b^3, (a b)^2 >";
+    assert!(rt; has_relator(alloc, group, 0, &[A, A])?);
+    assert!(rt; has_relator(alloc, group, 1, &[B, B, B])?);
+    assert!(rt; has_relator(alloc, group, 2, &[A, B, A, B])?);
     Ok(())
 }
 
