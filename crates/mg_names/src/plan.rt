@@ -8,8 +8,8 @@ use std::marker::Model;
 /// How many pairs of a question and a procedure the grants of a plan may name.
 pub const MOST_SEARCHES: usize = 2_048;
 
-/// How many steps a plan may have: 2^32.
-pub const MOST_STEPS: usize = 4_294_967_296;
+/// How many steps a plan may have: 2^32 - 2, so that searches are counted in 32 bits.
+pub const MOST_STEPS: usize = 4_294_967_294;
 
 /// A declared group.
 #[derive(Debug, Drop)]

@@ -141,7 +141,7 @@ module _ (plan : Plan) (steps : List PlanStep) (i : ℕ) (state : State) (output
   pub going_built : (d : PlanStep) → IsBuilt plan → i < length steps → IsBuiltStep (step_of (get_or steps i d))
   going_built d built within = all_at IsBuiltStep plan.steps i (step_of (get_or steps i d)) built (step_there d within)
 
-  steps_within : IsPlan plan → i < length steps → i < 2147483648
+  steps_within : IsPlan plan → i < length steps → i < 4294967294
   steps_within is_plan within =
       let long : length (map step_of steps) ≡ length steps = map_long steps in
       let same : length (map step_of steps) ≡ length plan.steps = ap length h.are in
