@@ -15,6 +15,7 @@ TIMEFORMAT=%U
 median() {
   file=$1
   shift
+  "$@" < "$file" > /dev/null || { echo "no output: $file" >&2; exit 1; }
   for _ in 1 2 3 4 5; do
     { time "$@" < "$file" > /dev/null; } 2>&1
   done | sort -n | sed -n 3p
