@@ -1,10 +1,8 @@
 -- A question that is asked, with the causes that it shows.
-use Rattle.std.proofs.Common.{◌≡◌, ◌≢◌, ℕ, zero, suc, ◌+◌, ◌<◌, ◌≤◌, ◌⊎◌, inl, inr, ⊎_elim, Result, Ok, Err, IfOk, Option, Some, None, List, [], ◌∷◌, ◌++◌, Contains, refl, sym, ap, subst, ◌∙◌, append-nil, arith}
+use Rattle.std.proofs.Common.{◌≡◌, ℕ, zero, suc, ⊎_elim, Result, Ok, Err, IfOk, Option, Some, None, List, [], ◌∷◌, ◌++◌, Contains, refl, sym, ap, subst, ◌∙◌, arith}
 use Rattle.std.specs.Prelude.{IfSome}
-use Rattle.std.specs.List.{AllByRecursion}
 use Rattle.std.proofs.lemmas.List.Elements.{Contains-append_left, Contains-append_right, Contains-append_cases}
-use Rattle.mg_lex.specs.declared.refusal.Cause.TheVariants as cause
-use Rattle.mg_present.specs.Presentation.{Group, IsPresented}
+use Rattle.mg_present.specs.Presentation.{IsPresented}
 use Rattle.mg_questions.specs.declared.question.Question as questions
 use Rattle.mg_questions.specs.declared.question.Question.TheVariants.{WordIsOne, WordsEqual, InSubgroup, Trivial, Abelian, Central, Normal, Extends, Onto, InKernel}
 use Rattle.mg_questions.specs.Asking.{IsFit}
@@ -16,18 +14,18 @@ use Rattle.mg_names.specs.declared.known.Known.{Known}
 use Rattle.mg_names.specs.declared.resolver.Resolver.{Resolver}
 use Rattle.mg_names.specs.declared.sizing.Sizing.{Sizing}
 use Rattle.mg_names.specs.Asked.{IsKnown, AreWithin, IsSameAsking, IsAnswer, IsQuestionRead}
-use Rattle.mg_names.specs.Cause.{Shown, at, taken_if, in_question, too_large, too_large_unless, IsFirst}
+use Rattle.mg_names.specs.Cause.{Shown, in_question, too_large, too_large_unless, IsFirst}
 use Rattle.mg_names.specs.Keeping.{Keeps, IsSound}
 use Rattle.mg_names.specs.Least.{IsLeastOf, IsNotAfter, Gets}
-use Rattle.mg_names.specs.Meaning.{Asking, question_named, declares_question}
+use Rattle.mg_names.specs.Meaning.{Asking, question_named}
 use Rattle.mg_names.specs.Named.{Named, Question}
-use Rattle.mg_names.specs.Plan.{Plan, PlanGroup}
-use Rattle.mg_names.specs.Scope.{Object, Scope}
-use Rattle.mg_names.specs.Sized.{IsCounted, IsSizing, IsToAdd, IsAskRead}
+use Rattle.mg_names.specs.Plan.{Plan}
+use Rattle.mg_names.specs.Scope.{Scope}
+use Rattle.mg_names.specs.Sized.{IsSizing, IsToAdd, IsAskRead}
 use Rattle.mg_names.specs.Within.{IsPlanGroup, IsScope, IsSizedQuestion}
 use Rattle.mg_names.proofs.Large.{same_fit}
 use Rattle.mg_names.proofs.Leasts.{only, all_after-append, all_after-less, gets_both, gets_nil}
-use Rattle.mg_names.proofs.Members.{all_get, all_left, all_right, none_left, none_right}
+use Rattle.mg_names.proofs.Members.{all_get, all_left, all_right, none_right}
 use Rattle.mg_names.proofs.Scopes.{IsAsking, question_asking}
 
 -- the least of some causes stands for all of them

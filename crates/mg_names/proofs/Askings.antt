@@ -1,25 +1,23 @@
 -- Reading a question.
-use Rattle.std.proofs.Common.{◌≡◌, ◌≢◌, ℕ, zero, suc, ℤ, ◌+◌, ◌<◌, ◌≤◌, Bool, true, false, Option, Some, None, List, [], ◌∷◌, ◌++◌, length, refl, sym, ap, subst, ◌∙◌, arith}
+use Rattle.std.proofs.Common.{◌≡◌, ◌≢◌, ℕ, zero, suc, ℤ, ◌<◌, ◌≤◌, true, false, Option, Some, None, List, [], ◌∷◌, ◌++◌, length, refl, sym, ap, subst, ◌∙◌, arith}
 use Rattle.std.specs.Prelude.{slice_get}
 use Rattle.mg_words.specs.Word.{Held}
 use Rattle.mg_present.specs.Presentation.{Group}
-use Rattle.mg_questions.specs.declared.question.Question as questions
 use Rattle.mg_questions.specs.declared.question.Question.TheVariants as asked
 use Rattle.mg_questions.specs.Content.{bare as without_room}
-use Rattle.mg_script.specs.declared.form.Property.{Property}
 use Rattle.mg_script.specs.declared.form.Property.TheVariants as property
 use Rattle.mg_names.specs.declared.asking.Asking as declared
 use Rattle.mg_names.specs.declared.home.Home.{Home}
 use Rattle.mg_names.specs.declared.known.Known.{Known}
-use Rattle.mg_names.specs.Plan.{Plan, PlanGroup}
-use Rattle.mg_names.specs.Named.{Named, Base, named, one, round, commutator, Factor, bare, power, Word, single, times, Question, equal, member, vanishes, central, has}
+use Rattle.mg_names.specs.Plan.{PlanGroup}
+use Rattle.mg_names.specs.Named.{Named, named, one, round, commutator, bare, power, Word, single, times, Question, equal, member, vanishes, central, has}
 use Rattle.mg_names.specs.Scope.{Object, a_group, a_word, a_subgroup, a_map, a_question, Declared, Scope, lookup}
 use Rattle.mg_names.specs.Meaning.{group_at, held, value, value_in, Asking, property_asked, equality_asked, membership_asked, kernel_asked, centrality_asked, question_named}
 use Rattle.mg_names.specs.Cause.{Shown, not_a_group, not_a_subgroup, not_a_map, of_group, of_subgroup, of_source, in_word, not_the_subject, in_question}
 use Rattle.mg_names.specs.Least.{Gets}
 use Rattle.mg_names.specs.Turn.{is_one}
 use Rattle.mg_names.specs.Asked.{IsKnown, AreWithin, IsHome, IsSameAsking, IsAnswer, IsQuestionRead}
-use Rattle.mg_names.specs.Within.{IsPlanGroup, IsGroupAt, HasWords, HasImages, IsScope}
+use Rattle.mg_names.specs.Within.{IsPlanGroup, IsGroupAt, HasWords, HasImages}
 use Rattle.mg_names.proofs.Leasts.{gets_both, gets_nil}
 use Rattle.mg_names.proofs.Members.{all_get}
 use Rattle.mg_names.proofs.Scopes.{group_is, name_object}

@@ -1,20 +1,18 @@
 -- Words written out, and their values, are within bounds.
-use Rattle.std.proofs.Common.{◌≡◌, ℕ, zero, suc, ℤ, pos, neg_ℤ, ◌+◌, ◌*◌, ◌<◌, ◌≤◌, Bool, true, false, cond, Option, Some, None, List, [], ◌∷◌, ◌++◌, map, length, refl, sym, ap, subst, ◌∙◌, arith, rules}
-use Rattle.std.specs.Prelude.{nat_abs, ◌==◌, if◌then◌else◌, slice_get}
+use Rattle.std.proofs.Common.{◌≡◌, ℕ, zero, suc, ℤ, ◌+◌, ◌*◌, ◌<◌, ◌≤◌, Bool, true, false, Option, Some, None, List, [], ◌∷◌, ◌++◌, length, refl, sym, ap, subst, ◌∙◌, arith}
+use Rattle.std.specs.Prelude.{nat_abs, ◌==◌, if◌then◌else◌}
 use Rattle.std.specs.List.{AllByRecursion}
 use Rattle.std.proofs.Math.Nat.{mul-le-mul}
 use Rattle.std.proofs.lemmas.List.{length-append}
 use Rattle.std.proofs.lemmas.Bool.Decides.{Decides-eqb}
 use Rattle.mg_terms.specs.Word.{base_letters, factor_letters, word_letters}
-use Rattle.mg_terms.specs.declared.limits.TheConstants.{WORD_LIMIT}
-use Rattle.mg_words.specs.Letter.{IsLetterOf}
-use Rattle.mg_words.specs.Word.{IsOver, IsReduced, inv, commutator_of, power_of}
+use Rattle.mg_words.specs.Word.{IsOver, inv, commutator_of, power_of}
 use Rattle.mg_words.proofs.Chains.{IsOver-append, IsOver-inv, IsOver-power_of, IsOver-commutator_of, length-inv, length-power_of}
 use Rattle.mg_words.proofs.Free.{free_form, IsReduced-free_form, IsOver-free_form, free_form-length, reduced_from_apart}
 use Rattle.mg_script.specs.Count.{IsBoundedTerm}
 use Rattle.mg_questions.specs.Asking.{IsGiven}
 use Rattle.mg_names.specs.Plan.{Plan, PlanGroup}
-use Rattle.mg_names.specs.Named.{Named, Base, named, one, round, commutator, Factor, bare, power, Word, single, times, Relation, relator, equation, plain_base, plain_factor, plain_word}
+use Rattle.mg_names.specs.Named.{Base, named, one, round, commutator, Factor, bare, power, Word, single, times, Relation, relator, equation, plain_base, plain_factor, plain_word}
 use Rattle.mg_names.specs.Scope.{Object, a_group, a_word, a_subgroup, a_map, a_question, Declared, same_text, lookup, next_place, generator_place}
 use Rattle.mg_names.specs.Meaning.{letter_at, signed, base_written, factor_written, written, declared_word, name_value, value, relator_of}
 use Rattle.mg_names.specs.Within.{IsGroupAt, HasWord, IsObject, IsSizedWord, IsSizedRelation}

@@ -1,5 +1,5 @@
 -- Causes that are found, by the tests that find them.
-use Rattle.std.proofs.Common.{◌≡◌, ◌≢◌, ℕ, Bool, true, false, Option, Some, None, List, [], ◌∷◌, ◌++◌, refl, sym, ap, subst, ◌∙◌}
+use Rattle.std.proofs.Common.{◌≡◌, ◌≢◌, ℕ, Bool, true, false, Option, Some, None, List, [], ◌++◌, refl, sym, ap, subst, ◌∙◌}
 use Rattle.std.specs.Prelude.{if◌then◌else◌}
 use Rattle.mg_lex.specs.declared.refusal.Cause.TheVariants as cause
 use Rattle.mg_words.specs.declared.procedure.Procedure.{Procedure}
@@ -10,12 +10,11 @@ use Rattle.mg_names.specs.declared.resolver.Resolver.{Resolver}
 use Rattle.mg_names.specs.Plan.{PlanQuestion, Asked, plain}
 use Rattle.mg_names.specs.Meaning.{after}
 use Rattle.mg_names.specs.Keeping.{Keeps, Resolved}
-use Rattle.mg_names.specs.Cause.{Shown, IsFirst, at, applies, of_asked, not_applying, not_a_question, shown}
+use Rattle.mg_names.specs.Cause.{Shown, at, applies, of_asked, not_applying, not_a_question, shown}
 use Rattle.mg_names.specs.Least.{IsLeastOf, Gets, least_of}
 use Rattle.mg_names.specs.Named.{Named, Statement}
 use Rattle.mg_names.specs.Scope.{Scope, Object, a_group, a_word, a_subgroup, a_map, a_question}
 use Rattle.mg_names.proofs.Leasts.{gets_none}
-use Rattle.mg_names.proofs.Members.{none_left}
 
 pub gets_of : (a b : List Shown) (o p : Option Shown) → a ≡ b → Gets b o p → Gets a o p
 gets_of a b o p e h = subst (λ (xs : List Shown). Gets xs o p) (sym e) h

@@ -8,7 +8,7 @@ use Rattle.mg_script.specs.declared.script.ScriptLine.{ScriptLine}
 use Rattle.mg_names.specs.declared.resolver.Resolver.{Resolver}
 use Rattle.mg_names.specs.declared.scope.Object.{Object as Declarable}
 use Rattle.mg_names.specs.declared.scope.Object.TheVariants as declared
-use Rattle.mg_names.specs.Named.{Named, Word, word, subgroup, Statement}
+use Rattle.mg_names.specs.Named.{Named, Word, word, subgroup}
 use Rattle.mg_names.specs.Scope.{Scope, Object, a_group, a_word, a_subgroup, a_map, a_question, Declared, lookup}
 use Rattle.mg_names.specs.Meaning.{group_at, value, declaring, declares_word, declares_subgroup, after}
 use Rattle.mg_names.specs.Cause.{Shown, taken, taken_if, not_a_group, of_group, in_word, shown}

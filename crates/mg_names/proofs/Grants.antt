@@ -10,7 +10,7 @@ use Rattle.mg_names.specs.Plan.{Plan, PlanQuestion}
 use Rattle.mg_names.specs.Plan as steps
 use Rattle.mg_names.specs.Named.{Named, grant, cancel}
 use Rattle.mg_names.specs.Scope.{Scope, Object, a_group, a_word, a_subgroup, a_map, a_question, Declared, lookup}
-use Rattle.mg_names.specs.Sign.{Sign, a_name, the_keyword, the_number}
+use Rattle.mg_names.specs.Sign.{Sign, a_name, the_keyword}
 use Rattle.mg_names.specs.Meaning.{stepping, grants, cancels, after}
 use Rattle.mg_names.specs.Cause.{Shown, not_a_question, too_many_searches, not_applying_to, third_place, shown}
 use Rattle.mg_names.specs.Keeping.{Keeps, IsSound}

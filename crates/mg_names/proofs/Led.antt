@@ -1,9 +1,7 @@
 -- What the lines so far come to, as they are gone through.
-use Rattle.std.proofs.Common.{◌≡◌, ℕ, suc, ◌+◌, ◌-◌, ◌^◌, ◌<◌, ◌≤◌, Option, Some, None, List, [], ◌∷◌, ◌++◌, length, get_or, take, drop, refl, sym, ap, subst, ◌∙◌, append_assoc, append-nil, arith}
-use Rattle.std.proofs.lemmas.List.{take_more, take_all, take-append-drop, drop_more, length-append, length-take}
-use Rattle.std.specs.List.{AllByRecursion}
+use Rattle.std.proofs.Common.{◌≡◌, ℕ, ◌+◌, ◌-◌, ◌^◌, ◌<◌, ◌≤◌, Option, Some, None, List, [], ◌∷◌, ◌++◌, length, get_or, take, drop, refl, sym, ap, subst, ◌∙◌, append_assoc, arith}
+use Rattle.std.proofs.lemmas.List.{take_more, take_all, take-append-drop, length-append, length-take}
 use Rattle.std.proofs.lemmas.List.Elements.{All-from_recursion}
-use Rattle.mg_lex.specs.declared.limits.TheConstants.{LINE_LIMIT}
 use Rattle.mg_lex.specs.declared.refusal.Refused.{Refused}
 use Rattle.mg_lex.specs.Refusal.{place_of}
 use Rattle.mg_script.specs.declared.script.ScriptLine.{ScriptLine}
@@ -13,7 +11,7 @@ use Rattle.mg_names.specs.declared.resolver.Resolver.{Resolver}
 use Rattle.mg_names.specs.Named.{Statement, IsNamed}
 use Rattle.mg_names.specs.Scope.{Scope, nothing}
 use Rattle.mg_names.specs.Meaning.{after}
-use Rattle.mg_names.specs.Cause.{Shown, shown, IsFirst}
+use Rattle.mg_names.specs.Cause.{shown, IsFirst}
 use Rattle.mg_names.specs.Resolve.{Leads, IsPlanOf, IsRefused}
 use Rattle.mg_names.specs.Least.{IsLeastOf, least_of}
 use Rattle.mg_names.specs.Keeping.{Keeps, IsSound, Resolved}

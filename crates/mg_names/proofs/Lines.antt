@@ -1,6 +1,6 @@
 -- The lines that a script keeps are statements within its limits, and no more lines than it has bytes.
-use Rattle.std.proofs.Common.{◌≡◌, ◌≢◌, ◌⊎◌, inl, inr, ⊎_elim, ℕ, zero, suc, ◌+◌, ◌<◌, ◌≤◌, Bool, true, false, cond, Option, Some, None, List, [], ◌∷◌, ◌++◌, map, length, refl, sym, ap, subst, ◌∙◌, arith}
-use Rattle.std.specs.Prelude.{filter, IfSome}
+use Rattle.std.proofs.Common.{◌≡◌, ◌≢◌, ⊎_elim, ℕ, zero, suc, ◌+◌, ◌<◌, ◌≤◌, Some, None, List, [], ◌∷◌, ◌++◌, map, length, refl, sym, ap, subst, ◌∙◌, arith}
+use Rattle.std.specs.Prelude.{filter}
 use Rattle.std.specs.List.{AllByRecursion, AllZip}
 use Rattle.std.proofs.lemmas.List.{length-append, length-map}
 use Rattle.std.proofs.lemmas.List.Elements.{filter-append}
@@ -18,12 +18,11 @@ use Rattle.mg_script.specs.declared.counted.Counted.TheVariants as counted
 use Rattle.mg_script.specs.declared.counted.Counts.{Counts}
 use Rattle.mg_script.specs.declared.script.ScriptLine.{ScriptLine}
 use Rattle.mg_script.specs.Lines.{AreLines}
-use Rattle.mg_script.specs.Count.{limit_of, count_of, is_counted, how_many, Adds, AreWithinLimits, IsBounded, IsBoundedTerm}
+use Rattle.mg_script.specs.Count.{limit_of, is_counted, how_many, Adds, AreWithinLimits, IsBounded}
 use Rattle.mg_script.specs.Script.{counted_anew, IsKept, AreKept, IsScript}
 use Rattle.mg_script.specs.Statement as grammar
 use Rattle.mg_script.specs.Statement.{Piece, listed, listed_on, generator_names, relation_pieces, member_pieces, arrow_pieces, bar_pieces, statement_pieces, statement_lexemes, the_mark}
-use Rattle.mg_names.specs.Named.{Word, Relation, relator, equation, Arrow, Question, equal, member, vanishes, central, has, Statement, group, word, subgroup, mapping, ask, fund, grant, run, cancel, report, plain_word, plain_relation, plain_question, plain_statement, IsNamed}
-use Rattle.mg_names.specs.Meaning.{relations_in}
+use Rattle.mg_names.specs.Named.{Word, Relation, relator, equation, Arrow, Question, equal, member, vanishes, central, has, Statement, group, word, subgroup, mapping, ask, fund, grant, run, cancel, report, plain_word, plain_relation, plain_question, plain_statement}
 use Rattle.mg_names.specs.Within.{IsSizedWord, IsSizedRelation, IsSizedQuestion, IsSizedGroup, AreSizedWords, IsSized, IsReadLine}
 use Rattle.mg_names.proofs.Members.{all_left, all_right, all_more, all_unmap}
 use Rattle.mg_names.proofs.Signs.{kept_is_readable}

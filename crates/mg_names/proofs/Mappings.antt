@@ -1,5 +1,5 @@
 -- Reading a map.
-use Rattle.std.proofs.Common.{◌≡◌, ◌≢◌, ℕ, zero, suc, ℤ, ◌+◌, ◌<◌, ◌≤◌, Bool, true, false, cond, Option, Some, None, Result, Ok, Err, OnOk, List, [], ◌∷◌, ◌++◌, map, length, position, nat_eq, take, get_or, refl, sym, ap, subst, ◌∙◌, append_assoc, append-nil, arith}
+use Rattle.std.proofs.Common.{◌≡◌, ◌≢◌, ℕ, zero, suc, ℤ, ◌+◌, ◌<◌, ◌≤◌, Bool, true, false, cond, not, Bor, Option, Some, None, Result, Ok, Err, OnOk, List, [], ◌∷◌, ◌++◌, map, length, position, nat_eq, take, get_or, refl, sym, ap, subst, ◌∙◌, true≢false, append_assoc, append-nil, arith}
 use Rattle.std.specs.Prelude.{if◌then◌else◌, slice_get, IfSome, IfNone}
 use Rattle.std.specs.Cmp.Lexicographic.{pointwise}
 use Rattle.std.specs.Option.{is_some}
@@ -32,7 +32,7 @@ use Rattle.mg_names.specs.Sign.{Sign, Stops, first_lexeme, arrow_signs, listed_o
 use Rattle.mg_names.specs.Within.{IsSizedWord}
 use Rattle.mg_names.proofs.Causes.{found_all}
 use Rattle.mg_names.proofs.Leasts.{gets_none, gets_same, gets_both, gets_one, gets_more, gets_turned}
-use Rattle.mg_names.proofs.Lookups.{place_found}
+use Rattle.mg_names.proofs.Lookups.{place_found, texts_agree}
 use Rattle.mg_names.proofs.Members.{none_right}
 use Rattle.mg_names.proofs.Scopes.{name_object}
 
@@ -84,6 +84,30 @@ when_gets b shown o p e h = subst (λ (c : Bool). Gets (if c then shown else [])
 pub unless_gets : (b : Bool) (shown : List Shown) (o : Option Shown) → b ≡ false → Gets (if b then shown else []) o o
 unless_gets b shown o e = subst (λ (c : Bool). Gets (if c then shown else []) o o) (sym e) (gets_none o)
 
+-- a text is among some and one more where it is that one, or is among those
+either_first : (b c r : Bool) → (if b then true else (if c then true else r)) ≡ (if c then true else (if b then true else r))
+either_first true true r = refl
+either_first true false r = refl
+either_first false c r = refl
+
+among_last : (ts : List (List ℕ)) (t text : List ℕ) → is_among (ts ++ t ∷ []) text ≡ (if same_text t text then true else is_among ts text)
+among_last [] t text = refl
+among_last (u ∷ ts) t text = ap (λ (b : Bool). if same_text u text then true else b) (among_last ts t text) ∙ either_first (same_text u text) (same_text t text) (is_among ts text)
+
+-- whether a text is among those of some names
+abbrev pub is_named : List Name → List ℕ → Bool
+is_named ns text = is_among (texts (map named_of ns)) text
+
+-- the names up to a place, and what stands there
+named_at : (ns : List Name) (i : ℕ) (d : Name) (text : List ℕ) → i < length ns → is_named (take (i + 1) ns) text ≡ cond (pointwise nat_eq (get_or ns i d).text.now text) true (is_named (take i ns) text)
+named_at ns i d text less =
+    let n : Name = get_or ns i d in
+    ap (λ (ms : List Name). is_named ms text) (take_more ns i d less)
+    ∙ (ap (λ (ms : List Named). is_among (texts ms) text) (named-last (take i ns) n)
+    ∙ (ap (λ (ts : List (List ℕ)). is_among ts text) (map-append _ (map named_of (take i ns)) (named_of n ∷ []))
+    ∙ (among_last (texts (map named_of (take i ns))) n.text.now text
+    ∙ ap (λ (b : Bool). if b then true else is_named (take i ns) text) (texts_agree n.text.now text))))
+
 pub twice_at : (ns : List Name) (i : ℕ) (d : Name) (o p q : Option Shown) → i < length ns → Gets (twice (map named_of (take i ns))) o p
     → Gets (if is_among (texts (map named_of (take i ns))) (get_or ns i d).text.now then at cause.GeneratorTwice (get_or ns i d).place else []) p q → Gets (twice (map named_of (take (i + 1) ns))) o q
 twice_at ns i d o p q less g h =
@@ -93,6 +117,32 @@ twice_at ns i d o p q less g h =
     gets_same (twice (map named_of (take (i + 1) ns))) (twice (map named_of front) ++ last) o q
     (ap (λ (ms : List Name). twice (map named_of ms)) (take_more ns i d less) ∙ (ap twice (named-last front n) ∙ twice-last [] (map named_of front) (named_of n)))
     (gets_both (twice (map named_of front)) last o p q g h)
+
+-- one more name, whose text stands among those before it or not
+if_not_new : (new there : Bool) → new ≡ not there → new ≡ false → there ≡ true
+if_not_new new true e h = refl
+if_not_new new false e h = absurd (true≢false (sym e ∙ h))
+
+if_new : (new there : Bool) → new ≡ not there → new ≡ true → there ≡ false
+if_new new true e h = absurd (true≢false (sym h ∙ e))
+if_new new false e h = refl
+
+pub twice_again : (ns : List Name) (i : ℕ) (d : Name) (o p q : Option Shown) (new : Bool) (kept : Bor (List ℕ) → Bool) → i < length ns → Gets (twice (map named_of (take i ns))) o p → ((text : Bor (List ℕ)) → kept text ≡ is_named (take i ns) text.now)
+    → new ≡ not (kept (get_or ns i d).text) → new ≡ false → Gets (at cause.GeneratorTwice (get_or ns i d).place) p q → Gets (twice (map named_of (take (i + 1) ns))) o q
+twice_again ns i d o p q new kept less g same said e h =
+    let n : Name = get_or ns i d in
+    twice_at ns i d o p q less g (when_gets (is_named (take i ns) n.text.now) (at cause.GeneratorTwice n.place) p q (sym (same n.text) ∙ if_not_new new (kept n.text) said e) h)
+
+pub twice_new : (ns : List Name) (i : ℕ) (d : Name) (o p : Option Shown) (new : Bool) (kept : Bor (List ℕ) → Bool) → i < length ns → Gets (twice (map named_of (take i ns))) o p → ((text : Bor (List ℕ)) → kept text ≡ is_named (take i ns) text.now)
+    → new ≡ not (kept (get_or ns i d).text) → new ≡ true → Gets (twice (map named_of (take (i + 1) ns))) o p
+twice_new ns i d o p new kept less g same said e =
+    let n : Name = get_or ns i d in
+    twice_at ns i d o p p less g (unless_gets (is_named (take i ns) n.text.now) (at cause.GeneratorTwice n.place) p (sym (same n.text) ∙ if_new new (kept n.text) said e))
+
+pub named_more : (ns : List Name) (i : ℕ) (d : Name) (text : Bor (List ℕ)) (kept : Bor (List ℕ) → Bool) (now : Bool) → i < length ns → ((text : Bor (List ℕ)) → kept text ≡ is_named (take i ns) text.now)
+    → now ≡ cond (pointwise nat_eq (get_or ns i d).text.now text.now) true (kept text) → now ≡ is_named (take (i + 1) ns) text.now
+named_more ns i d text kept now less same is =
+    is ∙ (ap (λ (b : Bool). cond (pointwise nat_eq (get_or ns i d).text.now text.now) true b) (same text) ∙ sym (named_at ns i d text.now less))
 
 pub generators_at : (f : Named → List Shown) (ns ms : List Name) (i : ℕ) (d : Name) (o p q : Option Shown) → ms ≡ ns → i < length ms → Gets (flat_map f (map named_of (take i ns))) o p → Gets (f (named_of (get_or ms i d))) p q
     → Gets (flat_map f (map named_of (take (i + 1) ns))) o q

@@ -1,17 +1,14 @@
 -- The causes of a statement stand at places of its line.
-use Rattle.std.proofs.Common.{◌≡◌, ℕ, zero, suc, ◌+◌, ◌<◌, ◌≤◌, Bool, true, false, Option, Some, None, List, [], ◌∷◌, ◌++◌, map, length, refl, sym, ap, subst, arith}
-use Rattle.std.specs.Prelude.{nat_lt, if◌then◌else◌, ◌==◌, slice_get, not}
+use Rattle.std.proofs.Common.{ℕ, ◌+◌, ◌<◌, Bool, true, false, Option, Some, None, List, [], ◌∷◌, ◌++◌, length, sym, subst, arith}
+use Rattle.std.specs.Prelude.{nat_lt, if◌then◌else◌, ◌==◌, slice_get}
 use Rattle.std.specs.List.{AllByRecursion, flat_map}
 use Rattle.std.proofs.lemmas.List.Elements.{All-from_recursion, All-contains}
 use Rattle.mg_lex.specs.declared.limits.TheConstants.{LINE_LIMIT}
 use Rattle.mg_lex.specs.declared.refusal.Cause.TheVariants as cause
 use Rattle.mg_lex.specs.declared.token.Token.{Token}
-use Rattle.mg_lex.specs.Line.{token_bytes}
 use Rattle.mg_terms.specs.declared.lexeme.Lexeme.{Lexeme}
 use Rattle.mg_terms.specs.declared.lexeme.Lexeme.TheVariants as lexeme
 use Rattle.mg_words.specs.declared.procedure.Procedure.{Procedure}
-use Rattle.mg_words.specs.declared.procedure.Procedure.TheVariants as procedure
-use Rattle.mg_present.specs.Ask.{Inquiry}
 use Rattle.mg_script.specs.declared.form.Property.{Property}
 use Rattle.mg_script.specs.declared.form.Property.TheVariants as property
 use Rattle.mg_script.specs.declared.script.ScriptLine.{ScriptLine}
@@ -19,11 +16,11 @@ use Rattle.mg_present.specs.declared.ask.TheConstants.{MOST_GOALS}
 use Rattle.mg_questions.specs.Goals.{goals_of}
 use Rattle.mg_names.specs.declared.limits.TheConstants.{ASK_LETTER_LIMIT}
 use Rattle.mg_names.specs.Plan.{PlanQuestion, Asked, plain}
-use Rattle.mg_names.specs.Named.{Named, Base, named, one, round, commutator, Factor, bare, power, Word, single, times, Relation, relator, equation, Arrow, Question, equal, member, vanishes, central, has, Statement, group, word, subgroup, mapping, ask, fund, grant, run, cancel, report, word_names, relation_names, bar_names, question_names, statement_names, names_in, IsNamed}
+use Rattle.mg_names.specs.Named.{Named, named, one, round, commutator, bare, power, Word, single, times, Relation, relator, equation, Arrow, Question, equal, member, vanishes, central, has, Statement, group, word, subgroup, mapping, ask, fund, grant, run, cancel, report, word_names, relation_names, bar_names, question_names, statement_names, names_in, IsNamed}
 use Rattle.mg_names.specs.Scope.{Scope, Object, a_group, a_word, a_subgroup, a_map, a_question, Declared, lookup, generator_place}
-use Rattle.mg_names.specs.Meaning.{Asking, ask_letters, alone, relations_in, texts, group_at, question_named, is_named, ask_for}
+use Rattle.mg_names.specs.Meaning.{Asking, ask_letters, relations_in, texts, group_at, question_named, is_named, ask_for}
 use Rattle.mg_names.specs.Cause.{Shown, IsFirst, at, taken, taken_if, not_a_group, not_a_subgroup, not_a_map, not_a_question, no_letter, not_a_letter, no_word, in_word, in_relation, is_among, twice, twice_behind, of_group, of_subgroup, of_source, has_all, missing, lefts, last_place, third_place, in_mapping, not_the_subject, in_question, has_long, too_large, too_large_unless, applies, of_asked, not_applying, one_more_is_too_many, too_many_searches, not_applying_to, shown}
-use Rattle.mg_names.proofs.Members.{all_append, all_left, all_right, all_get}
+use Rattle.mg_names.proofs.Members.{all_append, all_left, all_right}
 
 abbrev pub IsPlace : ℕ → Type 0
 IsPlace k = k < LINE_LIMIT

@@ -1,5 +1,5 @@
 -- What holds of the plans that scripts mean, and of what their questions ask.
-use Rattle.std.proofs.Common.{◌≡◌, ℕ, zero, suc, ℤ, ◌+◌, ◌-◌, ◌^◌, ◌<◌, ◌≤◌, Some, List, [], ◌∷◌, ◌++◌, map, length, refl, sym, ap, subst, ◌∙◌, arith}
+use Rattle.std.proofs.Common.{◌≡◌, ℕ, zero, suc, ℤ, ◌+◌, ◌-◌, ◌^◌, ◌<◌, ◌≤◌, Some, List, [], ◌∷◌, map, length, refl, sym, ap, subst, ◌∙◌, arith}
 use Rattle.std.specs.Prelude.{slice_get, ◌↔◌}
 use Rattle.std.specs.List.{AllByRecursion, AllZip}
 use Rattle.mg_words.proofs.Free.{free_form, IsReduced-free_form, IsOver-free_form, free_form-freely}
@@ -14,14 +14,14 @@ use Rattle.mg_questions.proofs.Agreement.{agree}
 use Rattle.mg_script.specs.declared.script.ScriptLine.{ScriptLine}
 use Rattle.mg_script.specs.Script.{IsScript}
 use Rattle.mg_names.specs.declared.plan.TheConstants.{MOST_STEPS}
-use Rattle.mg_names.specs.Plan.{Plan, PlanGroup, PlanQuestion, plain, AskOf}
+use Rattle.mg_names.specs.Plan.{Plan, PlanQuestion, AskOf}
 use Rattle.mg_names.specs.IsPlan.{HasNames, IsPlan}
 use Rattle.mg_names.specs.Named.{Statement}
 use Rattle.mg_names.specs.Scope.{Scope, nothing}
 use Rattle.mg_names.specs.Meaning.{ask_for, after}
 use Rattle.mg_names.specs.Resolve.{Leads, Means, IsPlanOf}
 use Rattle.mg_names.specs.Within.{IsPlanGroup, AsksFor, IsScope, IsSized, IsReadLine}
-use Rattle.mg_names.proofs.Members.{all_get, zip_get, zip_left}
+use Rattle.mg_names.proofs.Members.{all_get, zip_left}
 use Rattle.mg_names.proofs.Scopes.{nothing_is, after_keeps}
 use Rattle.mg_names.proofs.Lines.{all_read, script_few}
 use Rattle.mg_names.proofs.Trees.{one_named}

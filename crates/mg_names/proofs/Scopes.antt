@@ -1,20 +1,18 @@
 -- What holds of all that statements declare is kept by each statement that shows no cause.
 use Rattle.std.proofs.Common.{◌≡◌, ℕ, zero, suc, ℤ, ◌+◌, ◌<◌, ◌≤◌, Bool, true, false, Option, Some, None, List, [], ◌∷◌, ◌++◌, map, length, refl, sym, ap, subst, ◌∙◌, arith}
 use Rattle.std.specs.Prelude.{nat_lt, slice_get, if◌then◌else◌, ◌==◌, ◌&&◌, ◌||◌, not, IfSome, Contains}
-use Rattle.std.specs.List.{AllByRecursion, AllZip, flat_map}
-use Rattle.std.proofs.lemmas.Bool.{ltb-false, false≢true}
+use Rattle.std.specs.List.{AllByRecursion}
+use Rattle.std.proofs.lemmas.Bool.{ltb-false}
 use Rattle.std.proofs.lemmas.Bool.Decides.{Decides-eqb, Decides-ltb}
 use Rattle.std.proofs.lemmas.List.{length-map, length-append}
 use Rattle.std.proofs.lemmas.List.Elements.{Contains-append_left, Contains-push}
 use Rattle.mg_words.specs.declared.procedure.Procedure.{Procedure}
 use Rattle.mg_words.specs.declared.procedure.Procedure.TheVariants as procedure
-use Rattle.mg_words.specs.Word.{Held}
 use Rattle.mg_lex.specs.declared.refusal.Cause.TheVariants as cause
-use Rattle.mg_present.specs.Presentation.{Group, IsRelator}
+use Rattle.mg_present.specs.Presentation.{IsRelator}
 use Rattle.mg_present.specs.Ask.{Inquiry}
 use Rattle.mg_present.specs.declared.ask.TheConstants.{MOST_GOALS}
 use Rattle.mg_questions.specs.declared.question.Question as asked
-use Rattle.mg_questions.specs.declared.question.Question.TheVariants as questions
 use Rattle.mg_questions.specs.declared.question.TheConstants.{MOST_GOAL_LETTERS}
 use Rattle.mg_questions.specs.Goals.{group_of, goals_of}
 use Rattle.mg_questions.specs.Asking.{IsGiven, AreGiven, IsFit, AreAllowed}
@@ -29,11 +27,11 @@ use Rattle.mg_names.specs.Plan.{Plan, PlanGroup, PlanQuestion, Asked, plain, Ste
 use Rattle.mg_names.specs.Plan as steps
 use Rattle.mg_names.specs.Applies.{Applies}
 use Rattle.mg_names.specs.IsPlan.{CanBeAsked, IsStep, GrantsOneOf}
-use Rattle.mg_names.specs.Named.{Named, Base, named, one, round, commutator, Factor, bare, power, Word, single, times, Relation, Arrow, Question, equal, member, vanishes, central, has, Statement, group, word, subgroup, mapping, ask, fund, grant, run, cancel, report}
+use Rattle.mg_names.specs.Named.{Named, named, one, round, commutator, bare, power, Word, single, times, Relation, Arrow, Question, equal, member, vanishes, central, has, Statement, group, word, subgroup, mapping, ask, fund, grant, run, cancel, report}
 use Rattle.mg_names.specs.Scope.{Object, a_group, a_word, a_subgroup, a_map, a_question, Declared, Scope, nothing, lookup, same_text}
-use Rattle.mg_names.specs.Meaning.{value, relator_of, relations_in, texts, or_no_group, group_at, image_of_generator, value_or_none, images, held, Asking, property_asked, value_in, equality_asked, membership_asked, kernel_asked, centrality_asked, question_named, ask_for, ask_letters, same_procedure, is_named, named_too, declaring, stepping, with_group, with_question, declares_word, declares_subgroup, declares_map, declares_question, grants, cancels, declared_group, after}
-use Rattle.mg_names.specs.Cause.{Shown, at, taken, in_question, has_long, too_large, too_large_unless, is_empty, has_generator, applies, of_asked, not_applying, of_procedure, one_more_is_too_many, too_many_searches, not_applying_to, not_a_group, not_a_question, third_place, shown}
-use Rattle.mg_names.specs.Within.{IsPlanGroup, IsGroupAt, HasWord, HasWords, HasImages, IsObject, AsksFor, IsScope, IsSizedWord, IsSizedRelation, IsSizedQuestion, IsSizedGroup, AreSizedWords, IsSized}
+use Rattle.mg_names.specs.Meaning.{value, relator_of, relations_in, texts, or_no_group, group_at, image_of_generator, value_or_none, images, Asking, property_asked, equality_asked, membership_asked, kernel_asked, centrality_asked, question_named, ask_for, ask_letters, same_procedure, is_named, named_too, declaring, stepping, with_group, with_question, declares_word, declares_subgroup, declares_map, declares_question, grants, cancels, declared_group, after}
+use Rattle.mg_names.specs.Cause.{Shown, at, taken, in_question, has_long, too_large, too_large_unless, is_empty, has_generator, applies, of_asked, not_applying, of_procedure, one_more_is_too_many, too_many_searches, not_applying_to, not_a_question, third_place, shown}
+use Rattle.mg_names.specs.Within.{IsPlanGroup, IsGroupAt, HasWords, HasImages, IsObject, AsksFor, IsScope, IsSizedWord, IsSizedRelation, IsSizedQuestion, IsSizedGroup, AreSizedWords, IsSized}
 use Rattle.mg_names.proofs.Members.{get_append, get_last, get_past, all_append, all_more, all_map, all_of, all_get, zip_append, zip_more, zip_get, none_left, none_right, none_if, none_unless, contains_head, contains_tail}
 use Rattle.mg_names.proofs.Bounds.{AreNamesAt, looked_up, nil_given, value_given, relator_given}
 

@@ -1,25 +1,17 @@
 -- A line is one statement with its names: the names of the line are cut by how many each part has.
-use Rattle.std.proofs.Common.{◌≡◌, ℕ, zero, suc, ◌+◌, Option, Some, None, List, [], ◌∷◌, ◌++◌, map, length, refl, sym, ap, subst, ◌∙◌, append_assoc, arith, Bool, true, false}
-use Rattle.std.specs.List.{flat_map, AllZip}
-use Rattle.std.proofs.lemmas.List.{nil_from_length, append-nil}
-use Rattle.std.proofs.lemmas.Slice.Zip.{AllZip-long}
+use Rattle.std.proofs.Common.{◌≡◌, ℕ, zero, suc, ◌+◌, Option, Some, None, List, [], ◌∷◌, ◌++◌, map, length, refl, sym, ap, ◌∙◌, append_assoc, arith, true, false}
+use Rattle.std.specs.List.{flat_map}
+use Rattle.std.proofs.lemmas.List.{append-nil}
 use Rattle.mg_lex.specs.declared.token.Token.{Token}
 use Rattle.mg_lex.specs.declared.keyword.Keyword.TheVariants as keyword
 use Rattle.mg_lex.specs.declared.mark.Mark.TheVariants as mark
-use Rattle.mg_lex.specs.Line.{token_bytes}
 use Rattle.mg_terms.specs.declared.lexeme.Lexeme.{Lexeme}
 use Rattle.mg_terms.specs.declared.lexeme.Lexeme.TheVariants as lexeme
-use Rattle.mg_terms.specs.Lexeme.{IsLexemeOf}
 use Rattle.mg_terms.specs.Word as tree
-use Rattle.mg_words.specs.declared.procedure.Procedure.{Procedure}
-use Rattle.mg_script.specs.declared.form.Property.{Property}
-use Rattle.mg_script.specs.declared.form.Printed.{Printed}
 use Rattle.mg_script.specs.declared.form.Printed.TheVariants as printed
-use Rattle.mg_script.specs.declared.counted.Counts.{Counts}
 use Rattle.mg_script.specs.declared.script.ScriptLine.{ScriptLine}
 use Rattle.mg_script.specs.Statement as grammar
 use Rattle.mg_script.specs.Statement.{Piece, pieces_lexemes, piece_lexemes, listed, listed_on, generator_names, relation_pieces, member_pieces, arrow_pieces, bar_pieces, question_pieces, bound_pieces, printed_pieces, statement_pieces, statement_lexemes, the_mark}
-use Rattle.mg_script.specs.Script.{IsKept}
 use Rattle.mg_script.proofs.Trees.{one_statement}
 use Rattle.mg_names.specs.Named.{Named, Base, named, one, round, commutator, Factor, bare, power, Word, single, times, Relation, relator, equation, Arrow, Question, equal, member, vanishes, central, has, Statement, group, word, subgroup, mapping, ask, fund, grant, run, cancel, report, plain_base, plain_factor, plain_word, plain_relation, plain_bar, plain_question, plain_statement, base_names, factor_names, word_names, relation_names, bar_names, question_names, statement_names, names_in, IsNamed}
 

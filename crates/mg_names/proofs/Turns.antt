@@ -1,5 +1,5 @@
 -- How questions are told apart by what stands behind their words.
-use Rattle.std.proofs.Common.{◌≡◌, ◌≢◌, Bool, true, false, not, Option, Some, None, List, [], ◌∷◌, ◌++◌, drop, refl, sym, ap, subst, ◌∙◌, append_assoc}
+use Rattle.std.proofs.Common.{◌≡◌, ◌≢◌, Bool, true, false, not, Some, List, [], ◌∷◌, ◌++◌, drop, refl, sym, ap, subst, ◌∙◌, append_assoc}
 use Rattle.mg_lex.specs.declared.keyword.Keyword.TheVariants as keyword
 use Rattle.mg_lex.specs.declared.mark.Mark.TheVariants as mark
 use Rattle.mg_terms.specs.declared.lexeme.Lexeme.{Lexeme}
@@ -9,7 +9,7 @@ use Rattle.mg_script.specs.declared.form.Property.TheVariants as property
 use Rattle.mg_script.specs.Statement.{property_keyword}
 use Rattle.mg_names.specs.declared.asking.Form.TheVariants as form
 use Rattle.mg_names.specs.Named.{Named, Base, named, one, round, commutator, Factor, bare, power, Word, single, times, Question, equal, member, vanishes, central, has}
-use Rattle.mg_names.specs.Sign.{Sign, a_name, sign_lexeme, first_lexeme, goes_on, Stops, the_mark, the_keyword, the_number, minus_signs, star_signs, base_signs, factor_signs, word_signs, question_signs, EndsWithName}
+use Rattle.mg_names.specs.Sign.{Sign, a_name, sign_lexeme, first_lexeme, Stops, the_mark, the_keyword, the_number, minus_signs, star_signs, base_signs, factor_signs, word_signs, question_signs, EndsWithName}
 use Rattle.mg_names.specs.Turn.{is_turn, is_before_turn, turn_or, turn, is_one, IsOneAhead}
 use Rattle.mg_names.specs.Asked.{form_of}
 use Rattle.mg_names.proofs.Members.{none_right}

@@ -1,5 +1,5 @@
 -- Words are read one after another, with commas between them.
-use Rattle.std.proofs.Common.{◌≡◌, ◌≢◌, ℕ, ℤ, suc, ◌+◌, ◌<◌, ◌≤◌, Option, Some, None, List, [], ◌∷◌, ◌++◌, map, length, refl, sym, ap, subst, ◌∙◌, append_assoc, append-nil, arith}
+use Rattle.std.proofs.Common.{◌≡◌, ◌≢◌, ℤ, ◌<◌, ◌≤◌, Option, Some, List, [], ◌∷◌, ◌++◌, map, length, refl, sym, ap, subst, ◌∙◌, append_assoc, append-nil, arith}
 use Rattle.std.specs.List.{AllByRecursion, flat_map}
 use Rattle.std.proofs.lemmas.List.{map-append, length-append}
 use Rattle.mg_lex.specs.declared.mark.Mark.TheVariants as mark
@@ -12,7 +12,7 @@ use Rattle.mg_names.specs.Cause.{Shown, in_word}
 use Rattle.mg_names.specs.Declaring.{words_signs, AreWordsAhead, AreReadUpTo}
 use Rattle.mg_names.specs.Least.{Gets}
 use Rattle.mg_names.specs.Reads.{IsWordAhead}
-use Rattle.mg_names.specs.Sign.{Sign, the_mark, first_lexeme, the_number, minus_signs, star_signs, listed, listed_on, base_signs, factor_signs, word_signs, Stops}
+use Rattle.mg_names.specs.Sign.{Sign, the_mark, first_lexeme, the_number, minus_signs, star_signs, listed_on, base_signs, factor_signs, word_signs, Stops}
 use Rattle.mg_names.specs.Within.{IsSizedWord}
 use Rattle.mg_names.proofs.Leasts.{gets_none, gets_more, gets_one}
 

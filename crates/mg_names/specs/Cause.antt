@@ -17,7 +17,7 @@ use Rattle.mg_script.specs.declared.script.ScriptLine.{ScriptLine}
 use Rattle.mg_names.specs.declared.limits.TheConstants.{ASK_LETTER_LIMIT, REWRITE_LIMIT, COSET_LIMIT}
 use Rattle.mg_names.specs.declared.plan.TheConstants.{MOST_SEARCHES}
 use Rattle.mg_names.specs.Plan.{PlanQuestion, Asked, plain}
-use Rattle.mg_names.specs.Named.{Named, Base, named, Word, word_names, Relation, relator, equation, Arrow, Question, equal, member, vanishes, central, has, Statement, group, word, subgroup, mapping, ask, fund, grant, run, cancel, report}
+use Rattle.mg_names.specs.Named.{Named, Word, word_names, Relation, relator, equation, Arrow, Question, equal, member, vanishes, central, has, Statement, group, word, subgroup, mapping, ask, fund, grant, run, cancel, report}
 use Rattle.mg_names.specs.Scope.{Object, a_group, a_word, a_subgroup, a_map, a_question, Declared, Scope, same_text, lookup, generator_place}
 use Rattle.mg_names.specs.Meaning.{alone, relations_in, texts, group_at, Asking, question_named, ask_for, ask_letters, same_procedure, is_named}
 

@@ -1,5 +1,5 @@
 -- What reading a declaration brings.
-use Rattle.std.specs.Prelude.{◌≡◌, ◌≢◌, ℕ, ℤ, Option, Some, None, List, [], ◌∷◌, ◌++◌, map}
+use Rattle.std.specs.Prelude.{◌≡◌, ◌≢◌, ℤ, Option, Some, None, List, [], ◌∷◌, ◌++◌, map}
 use Rattle.std.specs.List.{AllByRecursion, flat_map}
 use Rattle.mg_names.specs.declared.scope.Object.{Object}
 use Rattle.mg_lex.specs.declared.mark.Mark.TheVariants as mark

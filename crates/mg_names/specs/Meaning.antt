@@ -1,11 +1,9 @@
 -- What words and statements mean where their names are declared.
-use Rattle.std.specs.Prelude.{◌≡◌, ℕ, zero, suc, ℤ, pos, neg_ℤ, ◌+◌, ◌==◌, ◌&&◌, ◌||◌, if◌then◌else◌, Bool, true, false, Option, Some, None, List, [], ◌∷◌, ◌++◌, length, map, slice_get}
-use Rattle.std.specs.List.{flat_map}
+use Rattle.std.specs.Prelude.{ℕ, ℤ, pos, neg_ℤ, ◌+◌, ◌==◌, ◌&&◌, ◌||◌, if◌then◌else◌, Bool, true, false, Option, Some, None, List, [], ◌∷◌, ◌++◌, length, map, slice_get}
 use Rattle.mg_words.specs.declared.procedure.Procedure.{Procedure}
 use Rattle.mg_words.specs.declared.procedure.Procedure.TheVariants as procedure
 use Rattle.mg_words.specs.Word.{Held, inv, power_of, commutator_of}
 use Rattle.mg_words.proofs.Free.{free_form}
-use Rattle.mg_present.specs.Presentation.{Group}
 use Rattle.mg_present.specs.Ask.{Inquiry}
 use Rattle.mg_questions.specs.declared.question.Question as questions
 use Rattle.mg_questions.specs.declared.question.Question.TheVariants as asked

@@ -1,5 +1,5 @@
 -- The plan that the statements of a script mean, and where a script is refused that has none.
-use Rattle.std.specs.Prelude.{◌≡◌, ℕ, ◌≤◌, List, [], ◌∷◌, ◌++◌}
+use Rattle.std.specs.Prelude.{◌≡◌, ◌≤◌, List, [], ◌∷◌, ◌++◌}
 use Rattle.mg_lex.specs.declared.refusal.Refused.{Refused}
 use Rattle.mg_lex.specs.Refusal.{place_of}
 use Rattle.mg_script.specs.declared.script.ScriptLine.{ScriptLine}

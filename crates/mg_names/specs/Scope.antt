@@ -1,5 +1,5 @@
 -- What names stand for.
-use Rattle.std.specs.Prelude.{◌≡◌, ℕ, ◌+◌, ◌==◌, ◌&&◌, if◌then◌else◌, Bool, true, false, Option, Some, None, List, [], ◌∷◌}
+use Rattle.std.specs.Prelude.{ℕ, ◌+◌, ◌==◌, ◌&&◌, if◌then◌else◌, Bool, true, false, Option, Some, None, List, [], ◌∷◌}
 use Rattle.std.specs.Prelude.{ℤ}
 use Rattle.mg_words.specs.declared.procedure.Procedure.{Procedure}
 use Rattle.mg_questions.specs.declared.question.Question.{Question}

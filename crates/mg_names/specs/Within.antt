@@ -14,7 +14,7 @@ use Rattle.mg_names.specs.declared.limits.TheConstants.{ASK_LETTER_LIMIT}
 use Rattle.mg_names.specs.declared.plan.TheConstants.{MOST_SEARCHES}
 use Rattle.mg_names.specs.Plan.{Plan, PlanGroup, PlanQuestion, plain}
 use Rattle.mg_names.specs.IsPlan.{IsStep, GrantsOneOf}
-use Rattle.mg_names.specs.Named.{Word, Relation, relator, equation, Arrow, Question, equal, member, vanishes, central, has, Statement, group, word, subgroup, mapping, ask, fund, grant, run, cancel, report, plain_word, IsNamed}
+use Rattle.mg_names.specs.Named.{Word, Relation, relator, equation, Question, equal, member, vanishes, central, has, Statement, group, word, subgroup, mapping, ask, fund, grant, run, cancel, report, plain_word, IsNamed}
 use Rattle.mg_names.specs.Scope.{Object, a_group, a_word, a_subgroup, a_map, a_question, Scope}
 use Rattle.mg_names.specs.Meaning.{ask_for, relations_in}
 use Rattle.mg_names.specs.Sign.{IsReadable}

@@ -20,9 +20,10 @@ use crate::cursor::{Cursor, Name};
 use crate::least::{Fault, Found};
 use crate::plan::{Asked, PlanStep};
 use crate::resolver::Resolver;
-use mg_lex::{Cause, Keyword};
+use mg_lex::Cause;
 use mg_lists::NoMemory;
 use mg_present::Ask;
+use mg_script::procedure_of;
 use mg_terms::Lexeme;
 use mg_words::Procedure;
 
@@ -33,24 +34,12 @@ fn read_procedure(cursor: &mut Cursor) -> Procedure
 {
     let procedure = match cursor.lexeme() {
         Some(Lexeme::Keyword(keyword)) => procedure_of(keyword),
-        _ => Procedure::Derive,
+        _ => None,
     };
     cursor.skip();
-    procedure
-}
-
-/// The procedure with this keyword.
-fn procedure_of(keyword: Keyword) -> Procedure
-    ensures { (p : ProcedureOf) → keyword ≡ procedure_keyword p → result ≡ p }
-{
-    match keyword {
-        Keyword::Act => Procedure::Act,
-        Keyword::Residue => Procedure::Residue,
-        Keyword::Rewrite => Procedure::Rewrite,
-        Keyword::Cosets => Procedure::Cosets,
-        Keyword::Nielsen => Procedure::Nielsen,
-        Keyword::Recall => Procedure::Recall,
-        _ => Procedure::Derive,
+    match procedure {
+        Some(procedure) => procedure,
+        None => unreachable!(),
     }
 }
 

@@ -25,6 +25,7 @@ use crate::resolver::Resolver;
 use crate::scope::Object;
 use crate::skipping::skip_word;
 use crate::words::word;
+use indexmap::IndexSet;
 use mg_lex::{Cause, Mark, Text};
 use mg_lists::{List, NoMemory};
 use mg_present::GenMap;
@@ -114,23 +115,17 @@ fn has_all(names: &[Name], generators: &[Text]) -> bool
     true
 }
 
-/// A name that stands already among those before it shows a cause.
-#[tactic(auto, using(crate::proofs::Mappings::when_gets, crate::proofs::Mappings::unless_gets))]
-fn check_new(earlier: &[Name], name: Name, found: &mut Found)
-    ensures { Gets (if spec.is_among (texts (map named_of earlier.now)) name.entry.text.now then at Cause.GeneratorTwice name.entry.place else []) found.old found.new }
-{
-    if is_among(earlier, name.text) {
-        found.offer(name.place, Cause::GeneratorTwice);
-    }
-}
-
 /// Each name that stands already among those before it shows a cause.
-fn check_twice(names: &[Name], found: &mut Found)
-    ensures { Gets (twice (map named_of names.now)) found.old found.new }
+fn check_twice(alloc: Global, names: &[Name], found: &mut Found) -> Result<(), NoMemory>
+    ensures { OnOk result (Gets (twice (map named_of names.now)) found.old found.new) }
 {
-    for (place, name) in names.iter().enumerate() {
-        check_new(&names[..place], *name, found);
+    let mut earlier = IndexSet::new(alloc);
+    for name in names {
+        if !earlier.insert(name.text)? {
+            found.offer(name.place, Cause::GeneratorTwice);
+        }
     }
+    Ok(())
 }
 
 /// The arrows of a map.
@@ -203,13 +198,20 @@ impl<'a> Arrows<'a> {
     }
 
     /// The names on the left show the causes that are found.
-    fn check(&self, source: &Home, close: u32, found: &mut Found)
-        ensures { Gets (flat_map (not_a_letter source.now.names.now source.now.generators.now) (map named_of self.now.names)
-            ++ (twice (map named_of self.now.names) ++ missing (texts (map named_of self.now.names)) close source.now.generators.now)) found.old found.new }
+    fn check(
+        &self,
+        alloc: Global,
+        source: &Home,
+        close: u32,
+        found: &mut Found,
+    ) -> Result<(), NoMemory>
+        ensures { OnOk result (Gets (flat_map (not_a_letter source.now.names.now source.now.generators.now) (map named_of self.now.names)
+            ++ (twice (map named_of self.now.names) ++ missing (texts (map named_of self.now.names)) close source.now.generators.now)) found.old found.new) }
     {
         self.check_generators(source, found);
-        check_twice(self.names.as_slice(), found);
+        check_twice(alloc, self.names.as_slice(), found)?;
         self.check_all(source.generators.as_slice(), close, found);
+        Ok(())
     }
 
     /// The image of a generator, which is empty where it has none.
@@ -280,11 +282,11 @@ impl Resolver {
         let arrows = read_arrows(alloc, cursor, &target, found)?;
         match self.home_of(source) {
             Some(home) => {
-                arrows.check(&home, close, found);
+                arrows.check(alloc, &home, close, found)?;
                 arrows.in_order(alloc, home.generators.as_slice())
             }
             None => {
-                check_twice(arrows.names.as_slice(), found);
+                check_twice(alloc, arrows.names.as_slice(), found)?;
                 Ok(Words::new(alloc))
             }
         }

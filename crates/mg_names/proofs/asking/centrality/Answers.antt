@@ -1,4 +1,4 @@
-use Rattle.std.proofs.Common.{◌∙◌, refl, sym, ap, subst, Some, None, List, [], ◌∷◌, ℤ}
+use Rattle.std.proofs.Common.{refl, subst, Some, None, List, [], ◌∷◌}
 use Rattle.mg_lex.specs.declared.keyword.Keyword.TheVariants as keyword
 use Rattle.mg_questions.specs.declared.question.Question.TheVariants as asked
 use Rattle.mg_names.specs.Asked.{IsQuestionRead}

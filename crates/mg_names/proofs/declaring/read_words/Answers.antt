@@ -1,7 +1,3 @@
-use Rattle.std.proofs.Common.{◌≡◌, ◌≢◌, Some, true, false}
-use Rattle.mg_lex.specs.declared.mark.Mark.TheVariants as mark
-use Rattle.mg_terms.specs.declared.lexeme.Lexeme.TheVariants as lexeme
-use Rattle.mg_names.specs.Sign.{first_lexeme}
 use Rattle.mg_names.proofs.WordLists.{word_ahead, one_more, still_ahead, shorter, read_letters, read_causes}
 use Rattle.mg_names.proofs.declaring.read_words.Goals as goal
 

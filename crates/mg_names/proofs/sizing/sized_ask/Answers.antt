@@ -1,5 +1,3 @@
-use Rattle.std.proofs.Common.{◌≡◌, Err}
-use Rattle.mg_questions.specs.declared.limits.AskFault.TheVariants as fault
 use Rattle.mg_names.proofs.Large.{many_answer, long_answer, fits_answer, full_answer}
 use Rattle.mg_names.proofs.sizing.sized_ask.Goals as goal
 

@@ -1,4 +1,4 @@
-use Rattle.std.proofs.Common.{◌≡◌, ◌∙◌, [], None, subst, Option}
+use Rattle.std.proofs.Common.{[], subst, Option}
 use Rattle.mg_names.specs.Cause.{Shown}
 use Rattle.mg_names.specs.Least.{Gets}
 use Rattle.mg_names.specs.Name.{named_of}

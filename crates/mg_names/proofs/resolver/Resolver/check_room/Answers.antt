@@ -1,4 +1,4 @@
-use Rattle.std.proofs.Common.{◌≡◌, ◌<◌, ◌∙◌, sym, subst, length}
+use Rattle.std.proofs.Common.{◌<◌, ◌∙◌, sym, subst, length}
 use Rattle.mg_lex.specs.declared.refusal.Cause.TheVariants as cause
 use Rattle.mg_names.specs.Plan.{Plan}
 use Rattle.mg_names.specs.Cause.{at}

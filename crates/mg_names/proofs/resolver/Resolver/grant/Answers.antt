@@ -1,10 +1,10 @@
-use Rattle.std.proofs.Common.{◌≡◌, ◌<◌, ◌∷◌, [], None, subst, Option, length, List}
+use Rattle.std.proofs.Common.{◌<◌, ◌∷◌, [], subst, Option, length}
 use Rattle.mg_names.specs.Cause.{Shown}
 use Rattle.mg_names.specs.Least.{Gets}
 use Rattle.mg_names.specs.Name.{named_of}
 use Rattle.mg_names.specs.Named.{grant}
 use Rattle.mg_names.specs.Plan.{Plan}
-use Rattle.mg_names.specs.Sign.{Sign, the_number}
+use Rattle.mg_names.specs.Sign.{the_number}
 use Rattle.mg_names.proofs.Causes.{refused, accepted, none_is}
 use Rattle.mg_names.proofs.Grants.{grant_causes, head, question_within, grant_least, grant_after, grant_some, grant_room}
 use Rattle.mg_names.proofs.resolver.Resolver.grant.Goals as goal

@@ -14,7 +14,7 @@ returns-in-Some-clause-causes c scope line all from to keeps e last sf st =
     let r = c.in_ok-arrows.ensures all e in
     always c.in_order.result (Gets (in_mapping scope line all from to) c.args.found.now c.check.new.found)
     (known_source scope line all from to c.args.source c.args.target c.in-Some.home c.home_of-target.result (map named_of c.in_ok-arrows.arrows.names) c.args.close c.args.found.now c.read_arrows.new.found c.check.new.found sf
-    (subst (λ (h : Option Home). IsHomeOf scope c.args.source h) c.in-Some.is (c.home_of.ensures scope keeps)) st (c.home_of-target.ensures scope keeps) r.names last r.causes c.check.ensures)
+    (subst (λ (h : Option Home). IsHomeOf scope c.args.source h) c.in-Some.is (c.home_of.ensures scope keeps)) st (c.home_of-target.ensures scope keeps) r.names last r.causes c.in_ok-check-in-Some.ensures)
 
 pub returns-in-Some-clause-images : goal.returns-in-Some-clause-images
 returns-in-Some-clause-images c scope all s t keeps e es et =
@@ -28,4 +28,4 @@ returns-clause-causes c scope line all from to keeps e last sf st =
     let r = c.in_ok-arrows.ensures all e in
     unknown_source scope line all from to c.args.source c.args.target c.home_of-target.result (map named_of c.in_ok-arrows.arrows.names) c.args.found.now c.read_arrows.new.found c.check_twice.new.found sf
     (subst (λ (h : Option Home). IsHomeOf scope c.args.source h) c.in-None.is (c.home_of.ensures scope keeps)) st (c.home_of-target.ensures scope keeps) r.names r.causes
-    (subst (λ (ns : List Name). Gets (twice (map named_of ns)) c.read_arrows.new.found c.check_twice.new.found) c.as_slice-in-None.ensures c.check_twice.ensures)
+    (subst (λ (ns : List Name). Gets (twice (map named_of ns)) c.read_arrows.new.found c.check_twice.new.found) c.as_slice-in-None.ensures c.in_ok-check_twice-in-None.ensures)

@@ -1,11 +1,9 @@
 use Rattle.std.proofs.Common.{◌≡◌, ◌∙◌, sym, ap, ℕ, List, Option, IfOk}
-use Rattle.mg_lex.specs.declared.token.Token.{Token}
-use Rattle.mg_script.specs.declared.form.Printed.{Printed}
 use Rattle.mg_words.specs.declared.procedure.Procedure.{Procedure}
 use Rattle.mg_names.specs.Cause.{third_place, last_place}
 use Rattle.mg_names.specs.Keeping.{Resolved}
 use Rattle.mg_names.specs.Least.{least_of}
-use Rattle.mg_names.specs.Named.{Named, Word, Relation, Arrow, Question, Statement, group, word, subgroup, mapping, ask, fund, grant, run, cancel, report}
+use Rattle.mg_names.specs.Named.{Named, Word, Relation, Arrow, Question, Statement, group, word, subgroup, mapping, ask, grant, cancel}
 use Rattle.mg_names.specs.Sign.{statement_signs, tail_of}
 use Rattle.mg_names.specs.Within.{IsSized}
 use Rattle.mg_names.proofs.Readings.{keyword_of, begins, head_read, one_of_these, group_only, word_only, subgroup_only, mapping_only, ask_only, fund_only, grant_only, run_only, cancel_only, report_only}

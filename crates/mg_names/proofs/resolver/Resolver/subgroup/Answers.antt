@@ -1,4 +1,3 @@
-use Rattle.std.proofs.Common.{◌≡◌, None}
 use Rattle.mg_names.specs.Name.{named_of}
 use Rattle.mg_names.specs.Named.{subgroup}
 use Rattle.mg_names.proofs.Causes.{refused, accepted, none_is}
