@@ -25,6 +25,12 @@ named keyword.Nielsen h = record { procedure = Nielsen; other = λ e. cc e; name
 named keyword.Recall h = record { procedure = Recall; other = λ e. cc e; name_is = refl }
 named _ h = absurd h
 
+-- a keyword that names no procedure names no other one
+pub not_named : (name : Keyword) → ((p : Procedure) → procedure_keyword p ≡ name → ⊥) → IsOtherName name → ⊥
+not_named name none h =
+    let p : Named name = named name h in
+    none p.procedure p.name_is
+
 is_other : (p : Procedure) → p ≢ Derive → IsOtherName (procedure_keyword p)
 is_other Derive h = absurd (h refl)
 is_other Act h = tt

@@ -9,8 +9,9 @@ ghost use Rattle.mg_session.specs.declared.script.SessionRefused.TheVariants.{No
 use crate::session::run_plan;
 use mg_lex::{Keyword, Refused, Text};
 use mg_names::{ResolveRefused, resolve};
-use mg_script::{ParseRefused, ScriptLine, parse};
+use mg_script::{ParseRefused, ScriptLine, parse, procedure_of};
 use mg_terms::Lexeme;
+use mg_words::Procedure;
 use std::alloc::{AllocError, Global};
 use thiserror::Error;
 
@@ -148,16 +149,13 @@ fn is_other(lexeme: Lexeme) -> bool
     }
 }
 
+/// Whether the keyword names another procedure than `derive`.
 fn is_other_name(keyword: Keyword) -> bool
     ensures { IsTrue result ↔ IsOtherName keyword }
 {
-    match keyword {
-        Keyword::Act
-        | Keyword::Residue
-        | Keyword::Rewrite
-        | Keyword::Cosets
-        | Keyword::Nielsen
-        | Keyword::Recall => true,
-        _ => false,
+    match procedure_of(keyword) {
+        None => false,
+        Some(Procedure::Derive) => false,
+        Some(_) => true,
     }
 }
