@@ -62,7 +62,7 @@ echo 'bare: mg_plain mg_certs mg_turn mg_core mg_present mg_words' >> "$work/rep
 cat > "$crate/src/main.rt" <<'END'
 //! Searches for a derivation of `a = 1` in turns of 1,024 units, as many as the first argument says, and prints the
 //! number of the last text tested. The second argument is the number of the group: 1 is `< a | a^12, a^18 >`, 2 is
-//! `< a | a^2 >` and 3 is `< a, b | a^2, b^3, a b a b >`. Where there is a third one, an entry is kept for each turn.
+//! `< a | a^2 >` and 3 is `< a, b | a^2, b^3, a b a b >`. Where there is a third argument, the entry of each turn is kept.
 #![tactic(auto)]
 
 ghost use Rattle.std.specs.Prelude.{◌≡◌, None, true, IfOk, IsTrue};
