@@ -1,11 +1,10 @@
 #!/usr/bin/env bash
 # How fast sessions run, in seconds of processor time, the kernel's counted in. First the median of nine runs of the proved
 # program on a script of 1,000 questions about 33 groups with 500 units each; then on one question with 100,000,000 units, in
-# turns of 1,024 units; then on a script of the greatest size, which is only read and resolved. Last, in three groups, 4,000,000
-# turns of 1,024 units: in a session, by the search called alone, and by the search where the entry of each turn is kept and no
-# more; of these the least of nine runs, taken in turn, since others on the machine only add. The small program that calls the
-# search is written into a copy of the repository, proved and built there, which takes a few minutes. Run `rt ci` first; it
-# leaves the program at crates/magnus/out/magnus.
+# turns of 1,024 units; then on a script of the greatest size, which is only read and resolved. Last, in four groups, 4,000,000
+# turns of 1,024 units: in a session, and by the search called alone; of these the least of nine runs, taken in turn, since others
+# on the machine only add. The small program that calls the search is written into a copy of the repository, proved and built
+# there, which takes a few minutes. Run `rt ci` first; it leaves the program at crates/magnus/out/magnus.
 cd "$(dirname "$0")/.." || exit 1
 program=crates/magnus/out/magnus
 units=${UNITS:-100000000}
@@ -62,13 +61,13 @@ echo 'bare: mg_plain mg_certs mg_turn mg_core mg_present mg_words' >> "$work/rep
 cat > "$crate/src/main.rt" <<'END'
 //! Searches for a derivation of `a = 1` in turns of 1,024 units, as many as the first argument says, and prints the
 //! number of the last text tested. The second argument is the number of the group: 1 is `< a | a^12, a^18 >`, 2 is
-//! `< a | a^2 >` and 3 is `< a, b | a^2, b^3, a b a b >`. Where there is a third argument, the entry of each turn is kept.
+//! `< a | a^2 >`, 3 is `< a, b | a^2, b^3, a b a b >` and 4 is `< a, b | a b a^-1 b^-1 >`.
 #![tactic(auto)]
 
 ghost use Rattle.std.specs.Prelude.{◌≡◌, None, true, IfOk, IsTrue};
 
 use mg_certs::Claim;
-use mg_core::{Entry, Facts, NoMemory, Records};
+use mg_core::{Facts, NoMemory, Records};
 use mg_plain::Plain;
 use mg_present::{Ask, Presentation, fits};
 use mg_turn::{Searcher, Stop, TurnEnd};
@@ -86,9 +85,19 @@ const A: Letter = Letter {
     inverse: false,
 };
 
+const A_INVERSE: Letter = Letter {
+    generator: 1,
+    inverse: true,
+};
+
 const B: Letter = Letter {
     generator: 2,
     inverse: false,
+};
+
+const B_INVERSE: Letter = Letter {
+    generator: 2,
+    inverse: true,
 };
 
 /// Knows no record.
@@ -110,6 +119,10 @@ fn relators(alloc: Global, group: u32) -> Result<Words, NoMemory> {
         relators.push(Word::from_letters(alloc, &[A; 18])?)?;
         return Ok(relators);
     }
+    if group == 4 {
+        relators.push(Word::from_letters(alloc, &[A, B, A_INVERSE, B_INVERSE])?)?;
+        return Ok(relators);
+    }
     relators.push(Word::from_letters(alloc, &[A, A])?)?;
     if group == 3 {
         relators.push(Word::from_letters(alloc, &[B, B, B])?)?;
@@ -119,7 +132,7 @@ fn relators(alloc: Global, group: u32) -> Result<Words, NoMemory> {
 }
 
 fn ask(alloc: Global, group: u32) -> Result<Ask, NoMemory> {
-    let generators = if group == 3 { 2 } else { 1 };
+    let generators = if group >= 3 { 2 } else { 1 };
     let relators = relators(alloc, group)?;
     let goal = Word::from_letters(alloc, &[A])?;
     if !fits(generators, &relators) || !is_over(generators, &goal) || !is_reduced(&goal) {
@@ -148,36 +161,25 @@ fn turn(alloc: Global, search: &mut Plain) -> Result<bool, NoMemory>
     Ok(matches!(outcome.end, TurnEnd::More))
 }
 
-/// Gives the search turns while it goes on, and keeps their entries if it shall.
-fn spend(alloc: Global, search: &mut Plain, turns: u64, is_kept: bool) -> Result<(), NoMemory>
+/// Gives the search turns while it goes on.
+fn spend(alloc: Global, search: &mut Plain, turns: u64) -> Result<(), NoMemory>
     requires { search.old.is_open ≡ true }
 {
-    let mut entries: Vec<Entry<Claim>> = Vec::new(alloc);
-    for number in 0..turns {
+    for _ in 0..turns {
         if !turn(alloc, search)? {
             return Ok(());
-        }
-        if is_kept {
-            entries.push(Entry {
-                pass: 1,
-                search: 1,
-                turn: number,
-                units: UNITS,
-                dropped: false,
-                records: Records::new(alloc),
-            })?;
         }
     }
     Ok(())
 }
 
 /// The number of the last text tested.
-fn tested(alloc: Global, turns: u64, group: u32, is_kept: bool) -> Result<u64, NoMemory> {
+fn tested(alloc: Global, turns: u64, group: u32) -> Result<u64, NoMemory> {
     let ask = ask(alloc, group)?;
     let Ok(mut search) = Plain::start(alloc, Procedure::Derive, &ask) else {
         return Err(AllocError);
     };
-    spend(alloc, &mut search, turns, is_kept)?;
+    spend(alloc, &mut search, turns)?;
     Ok(search.cursor())
 }
 
@@ -191,7 +193,7 @@ fn main(rt: HostRuntime) -> ExitCode {
     let Some(Ok(group)) = args.next().map(|word| word.parse::<u32>()) else {
         return ExitCode::from(2);
     };
-    match tested(rt.alloc(), turns, group, args.next().is_some()) {
+    match tested(rt.alloc(), turns, group) {
         Ok(number) => {
             let _ = println!(rt; "{number}");
             ExitCode::from(0)
@@ -206,8 +208,8 @@ use Rattle.std.proofs.Common.{◌≡◌, true}
 use Rattle.bare.proofs.spend.Given as goal
 
 -- the search goes on
-abbrev pub invariant-loop-number : goal.invariant-loop-number
-invariant-loop-number l = l.search.is_open ≡ true
+abbrev pub invariant-loop : goal.invariant-loop
+invariant-loop l = l.search.is_open ≡ true
 END
 
 (cd "$crate" && rt run -- 1 1 > "$work/log" 2>&1) || { tail -n 5 "$work/log" >&2; exit 1; }
@@ -218,15 +220,15 @@ least() { sort -n "$1" | head -n 1; }
 # The turns about a group, which has this number in the small program.
 compare() {
   one "$2" "$((turns * 1024))" > "$work/turns"
-  rm -f "$work/session" "$work/alone" "$work/kept"
+  rm -f "$work/session" "$work/alone"
   for _ in 1 2 3 4 5 6 7 8 9; do
     seconds "$work/turns" "$program" run >> "$work/session"
     seconds /dev/null "$crate/out/bare" "$turns" "$1" >> "$work/alone"
-    seconds /dev/null "$crate/out/bare" "$turns" "$1" kept >> "$work/kept"
   done
-  echo "$turns turns in < $2 >: $(least "$work/session") s in a session, $(least "$work/alone") s alone, $(least "$work/kept") s with entries kept"
+  echo "$turns turns in < $2 >: $(least "$work/session") s in a session, $(least "$work/alone") s alone"
 }
 
 compare 1 'a | a^12, a^18'
 compare 2 'a | a^2'
 compare 3 'a, b | a^2, b^3, a b a b'
+compare 4 'a, b | a b a^-1 b^-1'

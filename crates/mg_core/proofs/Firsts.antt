@@ -1,11 +1,11 @@
 -- Lemmas on the first record of a list that settles a key, and on verdicts of a log with more behind it.
-use Rattle.std.proofs.Common.{◌≡◌, ◌≢◌, ℕ, zero, suc, ◌+◌, ◌-◌, ◌<◌, ◌≤◌, ◌⊎◌, inl, inr, List, [], ◌∷◌, ◌++◌, length, take, Option, Some, refl, ap, sym, ◌∙◌, subst, arith}
+use Rattle.std.proofs.Common.{◌≡◌, ◌≢◌, ℕ, zero, suc, ◌+◌, ◌-◌, ◌<◌, ◌≤◌, ◌⊎◌, inl, inr, List, [], ◌∷◌, ◌++◌, length, take, Option, Some, ap, sym, ◌∙◌, subst, arith}
 use Rattle.std.specs.Prelude.{slice_get}
 use Rattle.std.specs.List.{AllByRecursion}
 use Rattle.std.proofs.lemmas.Option.{slice_get_within}
 use Rattle.mg_core.specs.declared.entries.Entry.{Entry}
 use Rattle.mg_core.specs.Log.{facts_of, VerdictIn, Settled}
-use Rattle.mg_core.specs.Index.{FirstAt}
+use Rattle.mg_core.specs.Index.{FirstAt, NoneSettles}
 
 -- what stands at an index of two lists behind each other
 pub get_left : {X : Type 0} (xs ys : List X) (i : ℕ) (x : X) → slice_get xs i ≡ Some x → slice_get (xs ++ ys) i ≡ Some x
@@ -32,6 +32,10 @@ all_get P (y ∷ xs) (suc i) x h there = all_get P xs i x h.1 there
 pub all_map : {X : Type 0} (P Q : X → Type 0) (xs : List X) → ((x : X) → P x → Q x) → AllByRecursion P xs → AllByRecursion Q xs
 all_map P Q [] f h = tt
 all_map P Q (x ∷ xs) f h = (f x h.0, all_map P Q xs f h.1)
+
+pub all_both : {X : Type 0} (P Q : X → Type 0) (xs : List X) → AllByRecursion P xs → AllByRecursion Q xs → AllByRecursion (λ x. P x × Q x) xs
+all_both P Q [] f g = tt
+all_both P Q (x ∷ xs) f g = ((f.0, g.0), all_both P Q xs f.1 g.1)
 
 get_taken : {X : Type 0} (xs : List X) (i j : ℕ) (x : X) → j < i → slice_get xs j ≡ Some x → slice_get (take i xs) j ≡ Some x
 get_taken [] i j x small h = absurd (cc)
@@ -73,12 +77,6 @@ module _ {R K : Type 0} (settles : R → Option K) where
     before = λ j q small there. elim (get_either xs ys j q there) [ inl here ↦ h.before j q small here | inr behind ↦ absurd (omega (arith, slice_get_within xs i r h.there, behind.1, small)) ];
   }
 
-  pub first_back : (xs ys : List R) (key : K) (i : ℕ) (r : R) → FirstAt settles (xs ++ ys) key i r → FirstAt settles xs key i r ⊎ ((k : ℕ) × (slice_get ys k ≡ Some r))
-  first_back xs ys key i r h = elim (get_either xs ys i r h.there) [
-    | inl here ↦ inl (record { there = here; settles_it = h.settles_it; before = λ j q small there. h.before j q small (get_left xs ys j q there) })
-    | inr behind ↦ inr (behind.0, behind.2)
-  ]
-
   pub first_behind : (xs ys : List R) (key : K) (i : ℕ) (r : R) → AllByRecursion (λ q. settles q ≢ Some key) xs → FirstAt settles ys key i r → FirstAt settles (xs ++ ys) key (length xs + i) r
   first_behind xs ys key i r none h = record {
     there = get_right xs ys i ∙ h.there;
@@ -86,40 +84,14 @@ module _ {R K : Type 0} (settles : R → Option K) where
     before = λ j q small there. elim (get_either xs ys j q there) [ inl here ↦ all_get (λ q. settles q ≢ Some key) xs j q none here | inr behind ↦ h.before behind.0 q (omega (arith, behind.1, small)) behind.2 ];
   }
 
-  -- where it is decided what settles the key, there is a first one or none does
-  pub first_or_none : (key : K) → ((r : R) → (settles r ≡ Some key) ⊎ (settles r ≢ Some key)) → (xs : List R) → ((i : ℕ) × (r : R) × FirstAt settles xs key i r) ⊎ AllByRecursion (λ q. settles q ≢ Some key) xs
-  first_or_none key decided [] = inr tt
-  first_or_none key decided (x ∷ xs) = elim (decided x) [
-    | inl settled ↦ inl (0, x, record { there = refl; settles_it = settled; before = λ j q small there. absurd (omega arith) })
-    | inr other ↦ elim (first_or_none key decided xs) [
-      | inl found ↦ inl (suc found.0, found.1, record { there = found.2.there; settles_it = found.2.settles_it; before = later x xs other found.0 found.1 found.2 })
-      | inr none ↦ inr (other, none)
-    ]
-  ]
-    where
-      later : (x : R) (xs : List R) → settles x ≢ Some key → (i : ℕ) (r : R) → FirstAt settles xs key i r → (j : ℕ) (q : R) → j < suc i → slice_get (x ∷ xs) j ≡ Some q → settles q ≢ Some key
-      later x xs other i r h zero q small there = (let same : x ≡ q = cc in subst (λ y. settles y ≢ Some key) same other)
-      later x xs other i r h (suc j) q small there = h.before j q (omega (arith, small)) there
+  -- of a log with these facts, the first that settles the key is its verdict
+  pub verdict_at : (log : List (Entry R)) (facts : List R) (key : K) (i : ℕ) (r : R) → facts_of log ≡ facts → FirstAt settles facts key i r → VerdictIn settles log key (i + 1) r
+  verdict_at log facts key i r same h =
+      let one : (i + 1) - 1 ≡ i = omega arith in
+      verdict_of_first log key (i + 1) r (omega arith) (subst (λ fs. FirstAt settles fs key ((i + 1) - 1) r) (sym same) (subst (λ j. FirstAt settles facts key j r) (sym one) h))
 
-  -- no fact settles a key that isn't settled
-  pub none_settle : (log : List (Entry R)) (key : K) → ((r : R) → (settles r ≡ Some key) ⊎ (settles r ≢ Some key)) → (Settled settles log key → ⊥) → AllByRecursion (λ q. settles q ≢ Some key) (facts_of log)
-  none_settle log key decided free = elim (first_or_none key decided (facts_of log)) [
-    | inl found ↦
-        let one : (found.0 + 1) - 1 ≡ found.0 = omega arith in
-        absurd (free (found.0 + 1, found.1, verdict_of_first log key (found.0 + 1) found.1 (omega arith) (subst (λ i. FirstAt settles (facts_of log) key i found.1) (sym one) found.2)))
-    | inr none ↦ none
-  ]
-
-  -- verdicts of a log with more facts behind it
-  pub verdict_more : (log new : List (Entry R)) (more : List R) (key : K) (n : ℕ) (r : R) → facts_of new ≡ facts_of log ++ more → VerdictIn settles log key n r → VerdictIn settles new key n r
-  verdict_more log new more key n r facts h =
-      verdict_of_first new key n r h.fact.from_one (subst (λ fs. FirstAt settles fs key (n - 1) r) (sym facts) (first_more (facts_of log) more key (n - 1) r (first_of_verdict log key n r h)))
-
-  pub settled_back : (log new : List (Entry R)) (more : List R) (key : K) → facts_of new ≡ facts_of log ++ more → Settled settles new key → Settled settles log key ⊎ ((k : ℕ) × (r : R) × (slice_get more k ≡ Some r) × (settles r ≡ Some key))
-  settled_back log new more key facts h =
-      let n = h.0 in
-      let r = h.1 in
-      elim (first_back (facts_of log) more key (n - 1) r (subst (λ fs. FirstAt settles fs key (n - 1) r) facts (first_of_verdict new key n r h.2))) [
-        | inl old ↦ inl (n, r, verdict_of_first log key n r h.2.fact.from_one old)
-        | inr late ↦ inr (late.0, r, late.1, h.2.verdict)
-      ]
+  -- where none settles the key, the log has no verdict for it
+  pub not_settled : (log : List (Entry R)) (facts : List R) (key : K) → facts_of log ≡ facts → NoneSettles settles facts key → Settled settles log key → ⊥
+  not_settled log facts key same none h =
+      let first = first_of_verdict log key h.0 h.1 h.2 in
+      all_get (λ r. settles r ≢ Some key) facts (h.0 - 1) h.1 none (subst (λ fs. slice_get fs (h.0 - 1) ≡ Some h.1) same first.there) first.settles_it

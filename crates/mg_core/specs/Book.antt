@@ -1,15 +1,22 @@
 -- What books keep, and what they do to their logs.
 use Rattle.std.specs.Prelude.{◌≡◌, ℕ, true, List, [], ◌∷◌, ◌++◌, length, Option}
 use Rattle.std.specs.List.{AllByRecursion}
+use Rattle.std.specs.declared.cmp.Ordering.{Ordering}
 use Rattle.mg_core.specs.declared.entries.Entry.{Entry}
 use Rattle.mg_core.specs.declared.entries.Committed.{Committed}
 use Rattle.mg_core.specs.declared.entries.Committed.TheVariants.{Kept, Dropped}
-use Rattle.mg_core.specs.Log.{facts_of, VerdictIn, Settled}
+use Rattle.mg_core.specs.declared.streaks.Streak.{Streak}
+use Rattle.mg_core.specs.Index.{IsIndexed}
+use Rattle.mg_core.specs.Log.{VerdictIn, Settled}
+use Rattle.mg_core.specs.Streaks.{Found, IsNumbered, log_of}
 
--- a log whose facts are counted, and each of them valid
-pub record IsCounted {R : Type 0} (valid : R → Type 0) (log : List (Entry R)) (facts : ℕ) : Type 0 where
-  pub count : facts ≡ length (facts_of log)
-  pub each_valid : AllByRecursion valid (facts_of log)
+-- what a book holds: valid facts, the streaks that found them, the number of entries, and the index of the facts
+pub record IsBook {R K : Type 0} (valid : R → Type 0) (settles : R → Option K) (cmp : K → K → Ordering) (facts : List R) (streaks : List Streak) (count : ℕ) (places : List ℕ) : Type 0 where
+  pub each_valid : AllByRecursion valid facts
+  pub found : Found facts streaks
+  pub numbered : AllByRecursion IsNumbered streaks
+  pub count_is : count ≡ length (log_of facts streaks)
+  pub indexed : IsIndexed settles cmp facts places
 
 -- the entry without its records, as it stands where its key was settled before
 abbrev pub bare : {R : Type 0} → Entry R → Entry R

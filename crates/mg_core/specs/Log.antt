@@ -51,13 +51,17 @@ abbrev pub last_number : {R : Type 0} → ℕ → List (ℕ × R) → ℕ
 last_number n [] = n
 last_number n (found ∷ rest) = last_number found.0 rest
 
--- the first `most` models of the group above a number, and up to which number there is no other
-pub record Handed {R G : Type 0} (model_of : R → Option G) (log : List (Entry R)) (group : G) (above most : ℕ) (facts : Facts R) : Type 0 where
+-- of these facts the first `most` models of the group above a number, and up to which number there is no other
+pub record HandedFrom {R G : Type 0} (model_of : R → Option G) (all : List R) (group : G) (above most : ℕ) (facts : Facts R) : Type 0 where
   pub models : List (ℕ × R)
-  pub are_models : ModelsAbove model_of log group above models
+  pub are_models : ModelsFrom model_of group above 1 all models
   pub from_is : facts.from ≡ above
   pub records_are : facts.records ≡ map (λ found. found.1) (take most models)
-  pub upto_is : facts.upto ≡ (if nat_le most (length models) then last_number above (take most models) else max above (length (facts_of log)))
+  pub upto_is : facts.upto ≡ (if nat_le most (length models) then last_number above (take most models) else max above (length all))
+
+-- of the facts of a log the first `most` models of the group above a number
+abbrev pub Handed : {R G : Type 0} → (R → Option G) → List (Entry R) → G → ℕ → ℕ → Facts R → Type 0
+Handed model_of log group above most facts = HandedFrom model_of (facts_of log) group above most facts
 
 -- an entry that may come next: of a search whose key is known, dropped exactly where that key is settled
 -- already, and then without records; its records are valid, and those that settle something settle that key

@@ -1,37 +1,44 @@
 //! The book that keeps a log.
-ghost use Rattle.std.specs.Prelude.{◌≡◌, ◌≢◌, ℕ, ◌+◌, ◌≤◌, ◌<◌, ◌↔◌, ◌^◌, false, Some, List, [], ◌∷◌, ◌++◌, length, IsTrue, IfSome, IfNone, IfOk, OnOk, OnErr};
+ghost use Rattle.std.specs.Prelude.{◌≡◌, ℕ, ◌+◌, ◌≤◌, ◌<◌, false, [], ◌∷◌, ◌++◌, length, IfSome, IfNone, IfOk, OnOk, OnErr};
 ghost use Rattle.std.specs.List.{AllByRecursion};
 ghost use Rattle.mg_core.specs.Log.{facts_of, IsFact, VerdictIn, Settled, Handed};
-ghost use Rattle.mg_core.specs.Book.{Commits, bare};
+ghost use Rattle.mg_core.specs.Book.{Commits};
+ghost use Rattle.mg_core.specs.Streaks.{IsNumbered, alone};
 
-use crate::entries::{Committed, Entry, Facts, Records};
-use crate::index::{Place, copy_of_places, place_among, place_for, put_place, record_at};
+use crate::entries::{Committed, Entry, Facts};
+use crate::index::{place_among, place_for, put_place};
 use crate::record::Record;
-use crate::scan::{copy_of_entry, count_of, fact_at, models_above};
+use crate::scan::{copy_of_facts, count_of, models_above, put_records};
+use crate::streaks::{Common, Entries, Streak, put_turn};
 use mg_lists::NoMemory;
 use std::alloc::{AllocError, Global};
 use std::marker::Model;
 
-/// A log, seen as the list of its entries. Its facts are numbered from 1.
+/// A log, seen as the list of its entries. Its facts are numbered from 1. Turns of one search that follow one another
+/// and find nothing take no memory of their own.
 #[derive(Drop)]
 pub struct Book<R: Record> {
-    entries: Vec<Entry<R>>,
-    facts: u64,
-    /// Where the verdicts stand, in the order of their keys.
-    places: Vec<Place>,
+    /// The facts, in order.
+    facts: Vec<R>,
+    /// The turns that found them, in order.
+    streaks: Vec<Streak>,
+    /// How many entries there are.
+    count: u64,
+    /// Where among the facts the verdicts stand, in the order of their keys.
+    places: Vec<usize>,
 }
 
 impl<R: Record> Model for Book<R> {
     ghost use Rattle.std.specs.Prelude.{List};
     ghost use Rattle.mg_core.specs.declared.entries.Entry.{Entry as EntryOf};
-    ghost use Rattle.mg_core.specs.Book.{IsCounted};
-    ghost use Rattle.mg_core.specs.Index.{IsIndexed};
+    ghost use Rattle.mg_core.specs.Book.{IsBook};
+    ghost use Rattle.mg_core.specs.Streaks.{log_of};
 
     ghost Value = { List (EntryOf R) };
 
-    ghost view = { λ a. a.entries.items };
+    ghost view = { λ a. log_of a.facts.items a.streaks.items };
 
-    ghost invariant = { λ a. IsCounted R.valid a.entries.items a.facts × IsIndexed R.settled R.Key.cmp a.entries.items a.places.items };
+    ghost invariant = { λ a. IsBook R.valid R.settled R.Key.cmp a.facts.items a.streaks.items a.count a.places.items };
 }
 
 impl<R: Record> Book<R> {
@@ -40,8 +47,9 @@ impl<R: Record> Book<R> {
         ensures { result ≡ [] }
     {
         Book {
-            entries: Vec::new(alloc),
-            facts: 0,
+            facts: Vec::new(alloc),
+            streaks: Vec::new(alloc),
+            count: 0,
             places: Vec::new(alloc),
         }
     }
@@ -50,14 +58,16 @@ impl<R: Record> Book<R> {
     pub fn copy(&self, alloc: Global) -> Result<Book<R>, NoMemory>
         ensures { IfOk result (λ book. book ≡ self.now) }
     {
-        let mut entries = Vec::with_capacity(alloc, self.entries.len())?;
-        for entry in self.entries.as_slice() {
-            entries.push(copy_of_entry(alloc, entry)?)?;
-        }
+        let facts = copy_of_facts(alloc, self.facts.as_slice())?;
+        let mut streaks = Vec::new(alloc);
+        streaks.extend_from_slice(self.streaks.as_slice())?;
+        let mut places = Vec::new(alloc);
+        places.extend_from_slice(self.places.as_slice())?;
         Ok(Book {
-            entries,
-            facts: self.facts,
-            places: copy_of_places(alloc, self.places.as_slice())?,
+            facts,
+            streaks,
+            count: self.count,
+            places,
         })
     }
 
@@ -70,27 +80,21 @@ impl<R: Record> Book<R> {
         ensures ok { IfOk result (Commits R.settled key.now self.old entry self.new) }
         ensures err { OnErr result (self.new ≡ self.old) }
     {
-        match place_for(self.entries.as_slice(), self.places.as_slice(), key) {
+        match place_for(self.facts.as_slice(), self.places.as_slice(), key) {
             Ok(verdict) => {
-                let place = self.append_bare(&entry)?;
+                let place = self.put_empty(&entry, true)?;
                 Ok(Committed::Dropped {
                     place,
-                    by: verdict.fact,
+                    by: verdict as u64 + 1,
                 })
             }
-            Err(at) => {
-                let records = entry.records.as_slice();
-                let Some(facts) = self.facts.checked_add(count_of(records)) else {
-                    return Err(AllocError);
-                };
-                let verdict = place_among(records, key, self.facts, self.entries.len());
-                self.places.reserve(1)?;
-                self.entries.push(entry)?;
-                self.facts = facts;
-                put_place(&mut self.places, at, verdict);
-                Ok(Committed::Kept {
-                    place: self.entries.len() as u64,
-                })
+            Err(_) if entry.records.as_slice().is_empty() => {
+                let place = self.put_empty(&entry, false)?;
+                Ok(Committed::Kept { place })
+            }
+            Err(_) => {
+                let place = self.put_found(key, entry)?;
+                Ok(Committed::Kept { place })
             }
         }
     }
@@ -100,9 +104,8 @@ impl<R: Record> Book<R> {
         ensures none { IfNone result (Settled R.settled self.now key.now → ⊥) }
         ensures some { IfSome result (λ v. VerdictIn R.settled self.now key.now v.0 v.1.now) }
     {
-        let entries = self.entries.as_slice();
-        match place_for(entries, self.places.as_slice(), key) {
-            Ok(place) => Some((place.fact, record_at(entries, place))),
+        match place_for(self.facts.as_slice(), self.places.as_slice(), key) {
+            Ok(place) => Some((place as u64 + 1, &self.facts[place])),
             Err(_) => None,
         }
     }
@@ -113,7 +116,7 @@ impl<R: Record> Book<R> {
         ensures none { IfNone result (length (facts_of self.now) < n) }
         ensures some { IfSome result (λ r. IsFact self.now n r.now) }
     {
-        fact_at(self.entries.as_slice(), n)
+        self.records().get(n as usize - 1)
     }
 
     /// How many facts there are. Each of them is valid.
@@ -121,14 +124,22 @@ impl<R: Record> Book<R> {
         ensures count { result ≡ length (facts_of self.now) }
         ensures valid { AllByRecursion R.valid (facts_of self.now) }
     {
-        self.facts
+        self.records().len() as u64
     }
 
-    /// The entries in order.
-    pub fn entries(&self) -> &[Entry<R>]
-        ensures { result.now ≡ self.now }
+    /// The facts, in the order of their numbers. Each of them is valid.
+    pub fn records(&self) -> &[R]
+        ensures facts { result.now ≡ facts_of self.now }
+        ensures valid { AllByRecursion R.valid result.now }
     {
-        self.entries.as_slice()
+        self.facts.as_slice()
+    }
+
+    /// The entries in the order of the log.
+    pub fn entries(&self) -> Entries<'_, R>
+        ensures { result ≡ self.now }
+    {
+        Entries::of(self.facts.as_slice(), self.streaks.as_slice())
     }
 
     /// Copies of the first `most` models of the group with a fact number above `after`.
@@ -141,26 +152,64 @@ impl<R: Record> Book<R> {
     ) -> Result<Facts<R>, NoMemory>
         ensures { IfOk result (Handed R.modelled self.now group.now after most) }
     {
-        // The facts are counted in 64 bits.
-        let _facts = self.facts;
-        models_above(alloc, self.entries.as_slice(), group, after, most)
+        models_above(alloc, self.records(), group, after, most)
     }
 
-    /// Appends an entry without its records, and answers its place from 1.
-    fn append_bare(&mut self, entry: &Entry<R>) -> Result<u64, NoMemory>
-        ensures ok { OnOk result (self.new ≡ self.old ++ bare entry.now ∷ []) }
+    /// Appends an entry without its records, dropped or kept, and answers its place from 1.
+    fn put_empty(&mut self, entry: &Entry<R>, dropped: bool) -> Result<u64, NoMemory>
+        ensures ok { OnOk result (self.new ≡ self.old ++ record (entry.now) { dropped = dropped; records = [] } ∷ []) }
         ensures place { IfOk result (λ place. place ≡ length self.new) }
         ensures err { OnErr result (self.new ≡ self.old) }
     {
-        let alloc = *self.entries.allocator();
-        self.entries.push(Entry {
-            pass: entry.pass,
-            search: entry.search,
-            turn: entry.turn,
-            units: entry.units,
-            dropped: true,
-            records: Records::new(alloc),
-        })?;
-        Ok(self.entries.len() as u64)
+        let Some(place) = self.count.checked_add(1) else {
+            return Err(AllocError);
+        };
+        put_turn(&mut self.streaks, turn_of(entry, dropped, 0))?;
+        self.count = place;
+        Ok(place)
     }
+
+    /// Appends an entry with its records for this key, which isn't settled, and answers its place from 1.
+    #[cold]
+    #[inline(never)]
+    fn put_found(&mut self, key: &R::Key, entry: Entry<R>) -> Result<u64, NoMemory>
+        requires kept { entry.dropped ≡ false }
+        requires few { length entry.records ≤ 2 }
+        requires of_key { AllByRecursion (λ r. IfSome (R.settled r) (λ k. k ≡ key.now)) entry.records }
+        requires unsettled { Settled R.settled self.old key.now → ⊥ }
+        ensures ok { OnOk result (self.new ≡ self.old ++ entry ∷ []) }
+        ensures place { IfOk result (λ place. place ≡ length self.new) }
+        ensures err { OnErr result (self.new ≡ self.old) }
+    {
+        let Some(place) = self.count.checked_add(1) else {
+            return Err(AllocError);
+        };
+        let Err(at) = place_for(self.facts.as_slice(), self.places.as_slice(), key) else {
+            unreachable!();
+        };
+        let records = entry.records.as_slice();
+        let count = count_of(records);
+        let verdict = place_among(records, key, self.facts.len());
+        self.facts.reserve(count)?;
+        self.places.reserve(1)?;
+        put_turn(&mut self.streaks, turn_of(&entry, false, count))?;
+        put_records(&mut self.facts, entry.records);
+        put_place(&mut self.places, at, verdict);
+        self.count = place;
+        Ok(place)
+    }
+}
+
+/// The turn of an entry as a streak of its own, dropped or kept, which found so many records.
+fn turn_of<R>(entry: &Entry<R>, dropped: bool, records: usize) -> Streak
+    ensures alone { result ≡ alone entry.now dropped records }
+    ensures numbered { IsNumbered result }
+{
+    let common = Common {
+        pass: entry.pass,
+        search: entry.search,
+        units: entry.units,
+        dropped,
+    };
+    Streak::of_one(common, entry.turn, records)
 }

@@ -21,6 +21,23 @@ pub struct Entry<R> {
     pub records: Records<R>,
 }
 
+/// An entry as a log lends it.
+#[derive(Clone, Copy)]
+pub struct EntryView<'a, R> {
+    /// The number of the pass under which it was committed.
+    pub pass: u32,
+    /// The number of the search.
+    pub search: u32,
+    /// The number of the turn among those of its search, from 0.
+    pub turn: u64,
+    /// The units that the turn spent.
+    pub units: u64,
+    /// Whether the key of the search was settled before.
+    pub dropped: bool,
+    /// What the turn found; nothing where it was dropped.
+    pub records: &'a [R],
+}
+
 /// What became of an entry.
 #[derive(Clone, Copy, Debug, PartialEq, Eq)]
 pub enum Committed {

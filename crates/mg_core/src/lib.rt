@@ -2,19 +2,20 @@
 //! model of a group; what the log knows are the records of the turns that were kept.
 #![tactic(auto)]
 
-mod ahead;
 mod book;
 mod entries;
 mod index;
 mod laws;
 mod record;
 mod scan;
+mod streaks;
 
 pub use book::Book;
-pub use entries::{Committed, Entry, Facts, Records};
+pub use entries::{Committed, Entry, EntryView, Facts, Records};
 pub use laws::{facts_of_appended, legal_appended};
 pub use mg_lists::NoMemory;
 pub use record::{Record, settles_key};
+pub use streaks::Entries;
 
 #[cfg(test)]
 mod tests;

@@ -1,10 +1,10 @@
-//! What is found in a log by going through its facts.
-ghost use Rattle.std.specs.Prelude.{◌≡◌, ◌≢◌, ℕ, ◌+◌, ◌≤◌, ◌<◌, ◌↔◌, ◌^◌, Some, List, length, IsTrue, IfSome, IfNone, IfOk};
+//! What is found among facts and records by going through them.
+ghost use Rattle.std.specs.Prelude.{◌≡◌, ◌++◌, ◌↔◌, ◌≤◌, ◌+◌, Some, List, length, IsTrue, IfOk};
 ghost use Rattle.std.specs.List.{AllByRecursion};
-ghost use Rattle.mg_core.specs.Log.{facts_of, IsFact, Handed};
+ghost use Rattle.std.specs.Vec.{vec_len, vec_capacity};
+ghost use Rattle.mg_core.specs.Log.{HandedFrom};
 
-use crate::ahead::Ahead;
-use crate::entries::{Entry, Facts, Records};
+use crate::entries::{Facts, Records};
 use crate::record::Record;
 use mg_lists::NoMemory;
 use std::alloc::Global;
@@ -21,7 +21,7 @@ fn is_model<R: Record>(fact: &R, group: &R::Group) -> bool
 }
 
 /// How many records these are. Each is looked at, and so known to be valid.
-pub(crate) fn count_of<R: Record>(records: &[R]) -> u64
+pub(crate) fn count_of<R: Record>(records: &[R]) -> usize
     ensures count { result ≡ length records.now }
     ensures valid { AllByRecursion R.valid records.now }
 {
@@ -33,41 +33,22 @@ pub(crate) fn count_of<R: Record>(records: &[R]) -> u64
     count
 }
 
-/// The fact with this number.
-pub(crate) fn fact_at<'a, R>(entries: &'a [Entry<R>], n: u64) -> Option<&'a R>
-    requires { 1 ≤ n }
-    ensures none { IfNone result (length (facts_of entries.now) < n) }
-    ensures some { IfSome result (λ r. IsFact entries.now n r.now) }
-{
-    let mut ahead = Ahead::of(entries);
-    let mut left = n;
-    while let Some(fact) = ahead.next() {
-        if left == 1 {
-            return Some(fact);
-        }
-        left -= 1;
-    }
-    None
-}
-
 /// Copies of the first `most` models of the group with a number above `after`.
 pub(crate) fn models_above<R: Record>(
     alloc: Global,
-    entries: &[Entry<R>],
+    facts: &[R],
     group: &R::Group,
     after: u64,
     most: u32,
 ) -> Result<Facts<R>, NoMemory>
-    requires { length (facts_of entries.now) < 2 ^ 64 }
-    ensures { IfOk result (Handed R.modelled entries.now group.now after most) }
+    ensures { IfOk result (HandedFrom R.modelled facts.now group.now after most) }
 {
-    let mut ahead = Ahead::of(entries);
     let mut records = Records::new(alloc);
     let mut upto = after;
     let mut number = 0;
     let mut count = 0;
     while count < most {
-        let Some(fact) = ahead.next() else {
+        let Some(fact) = facts.get(number as usize) else {
             return Ok(Facts {
                 from: after,
                 upto: after.max(number),
@@ -88,30 +69,27 @@ pub(crate) fn models_above<R: Record>(
     })
 }
 
-/// The same records.
-fn copy_of_records<R: Record>(alloc: Global, records: &[R]) -> Result<Records<R>, NoMemory>
-    ensures { IfOk result (λ copies. copies ≡ records.now) }
+/// The same facts.
+pub(crate) fn copy_of_facts<R: Record>(alloc: Global, facts: &[R]) -> Result<Vec<R>, NoMemory>
+    ensures { IfOk result (λ copies. copies.items ≡ facts.now) }
 {
-    let mut copies = Records::new(alloc);
-    for record in records {
-        copies.push(record.copy(alloc)?)?;
+    let mut copies = Vec::with_capacity(alloc, facts.len())?;
+    for fact in facts {
+        copies.push(fact.copy(alloc)?)?;
     }
     Ok(copies)
 }
 
-/// The same entry.
-pub(crate) fn copy_of_entry<R: Record>(
-    alloc: Global,
-    entry: &Entry<R>,
-) -> Result<Entry<R>, NoMemory>
-    ensures { IfOk result (λ copy. copy ≡ entry.now) }
+/// Puts records behind the facts, which have room for them.
+pub(crate) fn put_records<R: Drop>(facts: &mut Vec<R>, mut records: Records<R>)
+    requires { vec_len facts.old + length records ≤ vec_capacity facts.old }
+    ensures { facts.new.items ≡ facts.old.items ++ records }
 {
-    Ok(Entry {
-        pass: entry.pass,
-        search: entry.search,
-        turn: entry.turn,
-        units: entry.units,
-        dropped: entry.dropped,
-        records: copy_of_records(alloc, entry.records.as_slice())?,
-    })
+    let behind = facts.len();
+    while let Some(record) = records.pop() {
+        match facts.insert(behind, record) {
+            Ok(()) => {}
+            Err(_) => unreachable!(),
+        }
+    }
 }

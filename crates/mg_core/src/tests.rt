@@ -104,7 +104,7 @@ fn keeps_and_drops(rt: HostRuntime) -> Result<(), Fail> {
         Committed::Kept { place: 4 }
     );
     assert_eq!(rt; book.facts(), 3);
-    assert_eq!(rt; book.entries().len(), 4);
+    assert_eq!(rt; book.records().len(), 3);
     assert!(rt; book.verdict(&8).is_none());
     assert_eq!(rt;
         book.verdict(&7),
@@ -124,6 +124,67 @@ fn keeps_and_drops(rt: HostRuntime) -> Result<(), Fail> {
         })
     );
     assert!(rt; book.fact(4).is_none());
+    Ok(())
+}
+
+/// The entry of a turn that found nothing.
+fn empty(alloc: Global, search: u32, turn: u64, units: u64) -> Entry<Mark>
+    ensures { (result.dropped ≡ false) × (result.records ≡ []) }
+{
+    Entry {
+        pass: 1,
+        search,
+        turn,
+        units,
+        dropped: false,
+        records: Records::new(alloc),
+    }
+}
+
+/// The search, turn and units of the next entry, whether it was dropped, and how many records it has.
+fn next(entries: &mut Entries<'_, Mark>) -> Option<(u32, u64, u64, bool, usize)> {
+    match entries.next() {
+        Some(entry) => Some((
+            entry.search,
+            entry.turn,
+            entry.units,
+            entry.dropped,
+            entry.records.len(),
+        )),
+        None => None,
+    }
+}
+
+#[test]
+fn lends_the_entries_in_order(rt: HostRuntime) -> Result<(), Fail> {
+    let alloc = rt.alloc();
+    let mut book: Book<Mark> = Book::new(alloc);
+    book.commit(&7, entry(alloc, 0, false, 9)?)?;
+    for turn in 1..4 {
+        book.commit(&7, empty(alloc, 1, turn, 1))?;
+    }
+    book.commit(&8, empty(alloc, 2, 4, 1))?;
+    book.commit(&7, empty(alloc, 1, 4, 1))?;
+    book.commit(&7, empty(alloc, 1, 5, 2))?;
+    book.commit(&7, empty(alloc, 1, 7, 2))?;
+    book.commit(&7, entry(alloc, 8, true, 7)?)?;
+    book.commit(&7, empty(alloc, 1, 9, 1))?;
+    let mut entries = book.entries();
+    for seen in [
+        (1, 0, 1, false, 1),
+        (1, 1, 1, false, 0),
+        (1, 2, 1, false, 0),
+        (1, 3, 1, false, 0),
+        (2, 4, 1, false, 0),
+        (1, 4, 1, false, 0),
+        (1, 5, 2, false, 0),
+        (1, 7, 2, false, 0),
+        (1, 8, 1, false, 1),
+        (1, 9, 1, true, 0),
+    ] {
+        assert_eq!(rt; next(&mut entries), Some(seen));
+    }
+    assert_eq!(rt; next(&mut entries), None);
     Ok(())
 }
 

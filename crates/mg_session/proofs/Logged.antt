@@ -38,6 +38,24 @@ pairs_pushed R f xs i x vs new v pushed there each is =
     let all : map f new ≡ map f vs ++ f v ∷ [] = ap (map f) pushed ∙ map-append f vs (v ∷ []) in
     subst (EachPair R (take (i + 1) xs)) (sym all) (pairs_next R xs i x (map f vs) (f v) there each is)
 
+-- one pair more behind those that there are
+pairs_behind : {X Y : Type 0} (R : X → Y → Type 0) (xs : List X) (x : X) (ys : List Y) (y : Y) → EachPair R xs ys → R x y → EachPair R (xs ++ x ∷ []) (ys ++ y ∷ [])
+pairs_behind R [] x [] y each is = (is, tt)
+pairs_behind R [] x (v ∷ ys) y each is = absurd each
+pairs_behind R (w ∷ xs) x [] y each is = absurd each
+pairs_behind R (w ∷ xs) x (v ∷ ys) y each is = (each.0, pairs_behind R xs x ys y each.1 is)
+
+-- a printed value more
+pub pairs_printed : {X V Y : Type 0} (R : X → Y → Type 0) (f : V → Y) (xs : List X) (x : X) (vs new : List V) (v : V) → new ≡ vs ++ v ∷ [] → EachPair R xs (map f vs) → R x (f v) → EachPair R (xs ++ x ∷ []) (map f new)
+pairs_printed R f xs x vs new v pushed each is =
+    let all : map f new ≡ map f vs ++ f v ∷ [] = ap (map f) pushed ∙ map-append f vs (v ∷ []) in
+    subst (EachPair R (xs ++ x ∷ [])) (sym all) (pairs_behind R xs x (map f vs) (f v) each is)
+
+-- what holds of each holds of one in the middle
+pub all_middle : {X : Type 0} (P : X → Type 0) (xs : List X) (x : X) (ys : List X) → AllByRecursion P (xs ++ x ∷ ys) → P x
+all_middle P [] x ys each = each.0
+all_middle P (w ∷ xs) x ys each = all_middle P xs x ys each.1
+
 too_late : (state : State) (entry : Entry Fact) (key : Inquiry) → asks state.searches entry ≡ Some key → IsSearchOf 1 state.searches entry key → Settled key_of state.log key → IsTooLate state entry
 too_late state entry key asked search settled =
     let number = search.number in

@@ -1,6 +1,7 @@
 //! What is printed of a session's log.
 ghost use Rattle.std.specs.Prelude.{◌≡◌, ◌<◌, IfOk, true, length, map, slice_get, Some};
 ghost use Rattle.std.specs.List.{AllByRecursion};
+ghost use Rattle.mg_core.specs.Streaks.{entry_seen};
 ghost use Rattle.mg_workers.specs.Rows.{EachPair};
 ghost use Rattle.mg_report.specs.Values.{fate_of, entry_of, sum_of};
 ghost use Rattle.mg_report.specs.Log.{entry_line};
@@ -12,7 +13,7 @@ ghost use Rattle.mg_session.specs.Lookups.{IsTooLate, HasCause, IsCause};
 
 use crate::state::Session;
 use mg_certs::Claim;
-use mg_core::Entry;
+use mg_core::EntryView;
 use mg_lists::NoMemory;
 use mg_names::Plan;
 use mg_report::{EntryLine, Fate, SumLine};
@@ -24,17 +25,17 @@ pub(crate) fn entry_lines(alloc: Global, session: &Session) -> Result<Vec<EntryL
     ensures { IfOk result (λ lines. EachPair (IsEntryLine session.now) session.now.log (map entry_of lines.items)) }
 {
     let mut lines = Vec::new(alloc);
-    let entries = session.entries();
-    for entry in entries {
-        lines.push(line_of(session, entry))?;
+    let mut entries = session.entries();
+    while let Some(entry) = entries.next() {
+        lines.push(line_of(session, &entry))?;
     }
     Ok(lines)
 }
 
 /// What is printed of an entry.
-fn line_of(session: &Session, entry: &Entry<Claim>) -> EntryLine
-    requires { HasCause session.now entry.now }
-    ensures { IsEntryLine session.now entry.now (entry_of result) }
+fn line_of(session: &Session, entry: &EntryView<'_, Claim>) -> EntryLine
+    requires { HasCause session.now (entry_seen entry.now) }
+    ensures { IsEntryLine session.now (entry_seen entry.now) (entry_of result) }
 {
     EntryLine {
         pass: entry.pass,
@@ -46,22 +47,22 @@ fn line_of(session: &Session, entry: &Entry<Claim>) -> EntryLine
 }
 
 /// What became of the turn of an entry.
-fn fate_of_turn(session: &Session, entry: &Entry<Claim>) -> Fate
-    requires { HasCause session.now entry.now }
-    ensures { IsEntryLine session.now entry.now (entry_line entry.now (fate_of result)) }
+fn fate_of_turn(session: &Session, entry: &EntryView<'_, Claim>) -> Fate
+    requires { HasCause session.now (entry_seen entry.now) }
+    ensures { IsEntryLine session.now (entry_seen entry.now) (entry_line (entry_seen entry.now) (fate_of result)) }
 {
     if entry.dropped {
         let fact = cause_of(session, entry);
         return Fate::DroppedBy { fact };
     }
-    let records = entry.records.as_slice().len() as u64;
+    let records = entry.records.len() as u64;
     Fate::Kept { records }
 }
 
 /// The number of the fact that the turn of an entry came too late for.
-fn cause_of(session: &Session, entry: &Entry<Claim>) -> u64
-    requires { IsTooLate session.now entry.now }
-    ensures { IsCause session.now entry.now result }
+fn cause_of(session: &Session, entry: &EntryView<'_, Claim>) -> u64
+    requires { IsTooLate session.now (entry_seen entry.now) }
+    ensures { IsCause session.now (entry_seen entry.now) result }
 {
     match session.verdict(session.ask(entry.search - 1)) {
         Some((fact, _)) => fact,

@@ -14,15 +14,10 @@ pub(crate) fn fact_blocks(alloc: Global, session: &Session) -> Result<Vec<FactBl
     ensures { IfOk result (λ blocks. map fact_of blocks.items ≡ facts_of session.now.log) }
 {
     let mut blocks = Vec::new(alloc);
-    let entries = session.entries();
-    for entry in entries {
-        if !entry.dropped {
-            let records = entry.records.as_slice();
-            for claim in records {
-                let ClaimView::Settled(ask, verdict) = claim.view();
-                blocks.push(FactBlock { ask, verdict })?;
-            }
-        }
+    let claims = session.facts();
+    for claim in claims {
+        let ClaimView::Settled(ask, verdict) = claim.view();
+        blocks.push(FactBlock { ask, verdict })?;
     }
     Ok(blocks)
 }

@@ -1,5 +1,6 @@
 //! What is looked up in a session for what it prints.
 ghost use Rattle.std.specs.Prelude.{◌≡◌, ℕ, ◌<◌, length};
+ghost use Rattle.mg_core.specs.Log.{facts_of};
 ghost use Rattle.mg_search.specs.Search.{ask_of};
 ghost use Rattle.mg_report.specs.Values.{search_of, found_of};
 ghost use Rattle.mg_session.specs.Output.{line_of, IsVerdict};
@@ -7,7 +8,7 @@ ghost use Rattle.mg_session.specs.Lookups.{IsAt};
 
 use crate::state::Session;
 use mg_certs::{Claim, ClaimView, Verdict};
-use mg_core::Entry;
+use mg_core::Entries;
 use mg_present::Ask;
 use mg_report::SearchLine;
 use mg_turn::Searcher;
@@ -28,10 +29,17 @@ impl Session {
     }
 
     /// The entries of the log.
-    pub(crate) fn entries(&self) -> &[Entry<Claim>]
-        ensures { result.now ≡ self.now.log }
+    pub(crate) fn entries(&self) -> Entries<'_, Claim>
+        ensures { result ≡ self.now.log }
     {
         self.book.entries()
+    }
+
+    /// The facts of the log.
+    pub(crate) fn facts(&self) -> &[Claim]
+        ensures { result.now ≡ facts_of self.now.log }
+    {
+        self.book.records()
     }
 
     /// The place of the question of the search at a place.

@@ -3,7 +3,7 @@ ghost use Rattle.std.specs.Prelude.{◌≡◌, ◌≤◌, ◌^◌};
 ghost use Rattle.mg_workers.specs.declared.held.End.TheVariants.{Fresh};
 
 use super::*;
-use mg_core::{Book, Committed, NoMemory};
+use mg_core::{Book, Committed, EntryView, NoMemory};
 use mg_turn::example::{Finder, Mark};
 use std::alloc::Global;
 use std::test::Fail;
@@ -98,9 +98,18 @@ fn stands(searches: &[Held<Finder>], place: usize, spent: u64, held: u64, end: E
     }
 }
 
+/// The entry at the place.
+fn entry_at(book: &Book<Mark>, place: u32) -> Option<EntryView<'_, Mark>> {
+    let mut entries = book.entries();
+    for _ in 0..place {
+        let _earlier = entries.next();
+    }
+    entries.next()
+}
+
 /// Whether the entry at the place is of this search, spent this many units, and was dropped or kept.
-fn notes(book: &Book<Mark>, place: usize, search: u32, units: u64, dropped: bool) -> bool {
-    match book.entries().get(place) {
+fn notes(book: &Book<Mark>, place: u32, search: u32, units: u64, dropped: bool) -> bool {
+    match entry_at(book, place) {
         Some(entry) => (entry.search, entry.units) == (search, units) && entry.dropped == dropped,
         None => false,
     }
@@ -113,7 +122,7 @@ fn two_units_do_not_find_it(rt: HostRuntime) -> Result<(), Fail> {
     let searches = run(alloc, &mut book, 2, 0)?;
     assert!(rt; stands(searches.as_slice(), 0, 2, 0, End::More));
     assert!(rt; stands(searches.as_slice(), 1, 0, 0, End::Fresh));
-    assert!(rt; book.entries().len() == 1 && notes(&book, 0, 1, 2, false));
+    assert!(rt; notes(&book, 0, 1, 2, false) && entry_at(&book, 1).is_none());
     Ok(())
 }
 

@@ -1,6 +1,6 @@
-use Rattle.std.proofs.Common.{◌≡◌, ◌≢◌, Some, take}
-use Rattle.std.specs.List.{AllByRecursion}
+use Rattle.std.proofs.Common.{◌≡◌, ◌+◌, take}
+use Rattle.mg_core.specs.Index.{NoneSettles}
 use Rattle.mg_core.proofs.index.place_among.Given as goal
 
 abbrev pub invariant-loop-record : goal.invariant-loop-record
-invariant-loop-record g l = (l.member ≡ l.record-index) × AllByRecursion (λ r. g.R.Record.settled r ≢ Some l.key) (take l.record-index l.records)
+invariant-loop-record g l = (l.place ≡ l.fn.facts + l.record-index) × NoneSettles g.R.Record.settled (take l.record-index l.records) l.key

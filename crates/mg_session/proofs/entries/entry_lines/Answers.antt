@@ -1,14 +1,24 @@
-use Rattle.std.proofs.Common.{length, refl}
-use Rattle.std.proofs.lemmas.Option.{slice_get_read}
+use Rattle.std.proofs.Common.{[], ◌∷◌, ◌++◌, ap, sym, ◌∙◌, subst, append_assoc}
+use Rattle.std.specs.List.{AllByRecursion}
+use Rattle.mg_core.specs.Streaks.{entry_seen}
 use Rattle.mg_report.specs.Values.{entry_of}
 use Rattle.mg_session.specs.Output.{IsEntryLine}
-use Rattle.mg_session.proofs.Logged.{pairs_pushed}
+use Rattle.mg_session.specs.Lookups.{HasCause}
+use Rattle.mg_session.proofs.Logged.{all_middle, pairs_printed}
 use Rattle.mg_session.proofs.entries.entry_lines.Goals as goal
+
+pub line_of-requires : goal.line_of-requires
+line_of-requires c =
+    let past = c.loop-entry.invariant.0 in
+    let log = c.loop-entry.invariant.1 ∙ ap (λ entries. past ++ entries) c.in-Some.ensures.some in
+    all_middle (HasCause c.args.session.now) past (entry_seen c.in-Some.entry) c.next.new.self (subst (AllByRecursion (HasCause c.args.session.now)) log c.requires)
 
 pub loop-entry-preserved : goal.loop-entry-preserved
 loop-entry-preserved c =
-    let at = c.loop-entry in
-    let entries = c.entries-entries.result.now in
-    let entry = c.entry-item.result in
-    pairs_pushed (IsEntryLine c.args.session.now) entry_of entries at.entry-index entry at.lines.items c.push.new.self.items c.line_of.result c.in_ok-push.ensures.items
-    (slice_get_read entries (length entries) at.entry-index entry refl c.loop-entry-test.true c.entry-item.is) at.invariant c.line_of.ensures
+    let past = c.loop-entry.invariant.0 in
+    let entry = entry_seen c.in-Some.entry in
+    let log = c.loop-entry.invariant.1 ∙ ap (λ entries. past ++ entries) c.in-Some.ensures.some in (
+      past ++ entry ∷ [],
+      log ∙ sym (append_assoc past (entry ∷ []) c.next.new.self),
+      pairs_printed (IsEntryLine c.args.session.now) entry_of past entry c.loop-entry.lines.items c.push.new.self.items c.line_of.result c.in_ok-push.ensures.items c.loop-entry.invariant.2 c.line_of.ensures,
+    )

@@ -1,34 +1,60 @@
-use Rattle.std.proofs.Common.{◌≡◌, ◌+◌, [], ◌∷◌, ◌++◌, length, ap, sym, ◌∙◌, subst, rules, arith}
-use Rattle.std.specs.List.{AllByRecursion}
-use Rattle.mg_core.specs.Log.{Settled}
-use Rattle.mg_core.specs.Index.{IsBetween, IsPlaceOf, with_place}
-use Rattle.mg_core.proofs.Scans.{counted_kept}
-use Rattle.mg_core.proofs.Indexes.{missed, indexed_kept}
+use Rattle.std.proofs.Common.{◌≡◌, ◌+◌, [], ◌∷◌, ◌++◌, length, ap, sym, ◌∙◌, subst, rules}
+use Rattle.mg_core.specs.Log.{Settled, VerdictIn}
+use Rattle.mg_core.specs.Index.{IsBetween, PointsTo}
+use Rattle.mg_core.proofs.Books.{book_verdict, book_unsettled}
+use Rattle.mg_core.proofs.Scans.{nil_of}
 use Rattle.mg_core.proofs.book.Book.commit.Goals as goal
 
-pub invariant_of-self-in-Err : goal.invariant_of-self-in-Err
-invariant_of-self-in-Err g c =
-    let log = c.self.inside.entries.items in
+pub returns-in_ok-place-in-Ok-clause-ok : goal.returns-in_ok-place-in-Ok-clause-ok
+returns-in_ok-place-in-Ok-clause-ok g c =
+    let facts = c.self.inside.facts.items in
+    let streaks = c.self.inside.streaks.items in
     let places = c.self.inside.places.items in
-    let entry = c.args.entry in
-    let items : c.push.new.self.items ≡ log ++ entry ∷ [] = c.in_ok-push-in-Err.ensures.items in
-    let each : AllByRecursion g.R.Record.valid entry.records = subst (AllByRecursion g.R.Record.valid) c.as_slice-records.ensures c.count_of.ensures.valid in
-    let count : c.in-Some.facts ≡ c.self.inside.facts + length entry.records = c.in-Some.ensures.1 ∙ ap (λ m. c.self.inside.facts + m) (c.count_of.ensures.count ∙ ap length c.as_slice-records.ensures) in
-    let between : IsBetween g.R.Record.settled g.R.Key.Ord.cmp log places c.args.key.now c.in-Err.at c.in-Err.at = rw (c.as_slice.ensures.value, c.as_slice-2.ensures.value) at c.in-Err.ensures.missed in
-    let size : c.len.result ≡ length log = omega (arith, c.as_slice.ensures.len, ap length c.as_slice.ensures.value, c.len.ensures) in
-    let place : IsPlaceOf g.R.Record.settled entry.records c.args.key.now c.self.inside.facts (length log) c.place_among-verdict.result = rw (c.as_slice-records.ensures, size) at c.place_among-verdict.ensures in
-    let put : c.put_place.new.places.items ≡ with_place places c.in-Err.at c.place_among-verdict.result = c.put_place.ensures ∙ ap (λ ps. with_place ps c.in-Err.at c.place_among-verdict.result) c.in_ok-reserve-in-Err.ensures.items in
-    let indexed = indexed_kept g.R.Key.Ord.cmp g.met.R.Key.Ord.total g.R.Record.settled log entry g.met.R.Record.exact_keys c.args.key.now c.requires.kept c.requires.of_key places c.in-Err.at c.self.inside.facts c.place_among-verdict.result c.self.invariant.0.count between place in
-    (rw (items, count) (counted_kept g.R.Record.valid log entry c.self.inside.facts c.requires.kept each c.self.invariant.0), rw (items, put) indexed)
-
-pub returns-in_ok-push-in-Err-clause-ok : goal.returns-in_ok-push-in-Err-clause-ok
-returns-in_ok-push-in-Err-clause-ok g c =
-    let log = c.self.inside.entries.items in
-    let places = c.self.inside.places.items in
-    let items : c.push.new.self.items ≡ log ++ c.args.entry ∷ [] = c.in_ok-push-in-Err.ensures.items in
-    let between : IsBetween g.R.Record.settled g.R.Key.Ord.cmp log places c.args.key.now c.in-Err.at c.in-Err.at = rw (c.as_slice.ensures.value, c.as_slice-2.ensures.value) at c.in-Err.ensures.missed in
-    let size : c.len-in-Err.result ≡ length c.push.new.self.items = search rules in (
-      λ settled. missed g.R.Key.Ord.cmp g.met.R.Key.Ord.total g.R.Record.settled log places c.args.key.now c.in-Err.at between (subst (λ l. Settled g.R.Record.settled l c.args.key.now) (sym c.self.view_is) settled),
-      items ∙ ap (λ l. l ++ c.args.entry ∷ []) c.self.view_is,
-      size,
+    let by = c.in-Ok.verdict in
+    let points : PointsTo g.R.Record.settled facts c.args.key.now by = subst (λ fs. PointsTo g.R.Record.settled fs c.args.key.now by) c.as_slice.ensures.value c.in-Ok.ensures.found in (
+      points.verdict,
+      subst (λ log. VerdictIn g.R.Record.settled log c.args.key.now (by + 1) points.verdict) c.self.view_is
+          (book_verdict g.R.Record.valid g.R.Record.settled g.R.Key.Ord.cmp facts streaks c.self.inside.count places c.self.invariant c.args.key.now by points),
+      c.in_ok-place-in-Ok.ensures.ok,
+      c.in_ok-place-in-Ok.ensures.place,
     )
+
+pub returns-in_ok-place-in-Err-clause-ok : goal.returns-in_ok-place-in-Err-clause-ok
+returns-in_ok-place-in-Err-clause-ok g c =
+    let facts = c.self.inside.facts.items in
+    let streaks = c.self.inside.streaks.items in
+    let places = c.self.inside.places.items in
+    let at = c.in-Err.field-0 in
+    let between : IsBetween g.R.Record.settled g.R.Key.Ord.cmp facts places c.args.key.now at at = rw (c.as_slice.ensures.value, c.as_slice-2.ensures.value) at c.in-Err.ensures.missed in
+    let unsettled : Settled g.R.Record.settled c.args.self.now c.args.key.now → ⊥ =
+    λ settled. book_unsettled g.R.Record.valid g.R.Record.settled g.R.Key.Ord.cmp facts streaks c.self.inside.count places c.self.invariant g.met.R.Key.Ord.total c.args.key.now at between (subst (λ log. Settled g.R.Record.settled log c.args.key.now) (sym c.self.view_is) settled) in
+    let entry = c.args.entry in
+    let size : length entry.records ≡ 0 = search rules in (
+      unsettled,
+      c.in_ok-place-in-Err.ensures.ok
+          ∙ ap (λ dropped. c.args.self.now ++ record entry { dropped = dropped; records = [] } ∷ []) (sym c.requires.kept)
+          ∙ ap (λ records. c.args.self.now ++ record entry { records = records } ∷ []) (sym (nil_of entry.records size)),
+      c.in_ok-place-in-Err.ensures.place,
+    )
+
+pub put_found-requires-clause-unsettled : goal.put_found-requires-clause-unsettled
+put_found-requires-clause-unsettled g c =
+    let facts = c.self.inside.facts.items in
+    let streaks = c.self.inside.streaks.items in
+    let places = c.self.inside.places.items in
+    let at = c.in-Err-2.field-0 in
+    let between : IsBetween g.R.Record.settled g.R.Key.Ord.cmp facts places c.args.key.now at at = rw (c.as_slice.ensures.value, c.as_slice-2.ensures.value) at c.in-Err-2.ensures.missed in
+    let unsettled : Settled g.R.Record.settled c.args.self.now c.args.key.now → ⊥ =
+    λ settled. book_unsettled g.R.Record.valid g.R.Record.settled g.R.Key.Ord.cmp facts streaks c.self.inside.count places c.self.invariant g.met.R.Key.Ord.total c.args.key.now at between (subst (λ log. Settled g.R.Record.settled log c.args.key.now) (sym c.self.view_is) settled) in
+    unsettled
+
+pub returns-in_ok-place-in-Err-2-clause-ok : goal.returns-in_ok-place-in-Err-2-clause-ok
+returns-in_ok-place-in-Err-2-clause-ok g c =
+    let facts = c.self.inside.facts.items in
+    let streaks = c.self.inside.streaks.items in
+    let places = c.self.inside.places.items in
+    let at = c.in-Err-2.field-0 in
+    let between : IsBetween g.R.Record.settled g.R.Key.Ord.cmp facts places c.args.key.now at at = rw (c.as_slice.ensures.value, c.as_slice-2.ensures.value) at c.in-Err-2.ensures.missed in
+    let unsettled : Settled g.R.Record.settled c.args.self.now c.args.key.now → ⊥ =
+    λ settled. book_unsettled g.R.Record.valid g.R.Record.settled g.R.Key.Ord.cmp facts streaks c.self.inside.count places c.self.invariant g.met.R.Key.Ord.total c.args.key.now at between (subst (λ log. Settled g.R.Record.settled log c.args.key.now) (sym c.self.view_is) settled) in
+    (unsettled, c.in_ok-place-in-Err-2.ensures.ok, c.in_ok-place-in-Err-2.ensures.place)
