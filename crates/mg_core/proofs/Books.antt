@@ -8,10 +8,10 @@ use Rattle.mg_core.specs.declared.streaks.Streak.{Streak}
 use Rattle.mg_core.specs.Book.{IsBook}
 use Rattle.mg_core.specs.Index.{IsBetween, IsIndexed, PointsTo}
 use Rattle.mg_core.specs.Log.{Settled, VerdictIn}
-use Rattle.mg_core.specs.Streaks.{IsNumbered, Joins, alone, log_of, turn_of}
+use Rattle.mg_core.specs.Streaks.{Found, GoesLonger, IsNumbered, Joins, alone, log_of, turn_of}
 use Rattle.mg_core.proofs.Firsts.{verdict_at, not_settled}
 use Rattle.mg_core.proofs.Indexes.{missed}
-use Rattle.mg_core.proofs.Joined.{facts_found, found_joined, log_joined, numbered_joined}
+use Rattle.mg_core.proofs.Joined.{facts_found, found_joined, found_longer, log_joined, log_longer, numbered_joined, numbered_longer}
 use Rattle.mg_core.proofs.Scans.{all_append}
 
 module _ {R K : Type 0} (valid : R → Type 0) (settles : R → Option K) (cmp : K → K → Ordering) (facts : List R) (streaks : List Streak) (count : ℕ) (places : List ℕ) (book : IsBook valid settles cmp facts streaks count places) where
@@ -36,6 +36,18 @@ module _ {R K : Type 0} (valid : R → Type 0) (settles : R → Option K) (cmp :
       count_is = count_more;
       indexed = indexed;
     }
+
+  -- a book whose last streak goes on
+  pub book_longer : (now : List Streak) → GoesLonger streaks now → IsBook valid settles cmp facts now (count + 1) places
+  book_longer now h =
+      let more = ap (log_of facts) h.new_is ∙ log_longer facts h.before h.last ∙ ap (λ ss. log_of facts ss ++ turn_of h.last.common (h.last.turn + h.last.more + 1) [] ∷ []) (sym h.old_is) in
+      record {
+        each_valid = book.each_valid;
+        found = subst (Found facts) (sym h.new_is) (found_longer facts h.before h.last (subst (Found facts) h.old_is book.found));
+        numbered = subst (AllByRecursion IsNumbered) (sym h.new_is) (numbered_longer h.before h.last (subst (AllByRecursion IsNumbered) h.old_is book.numbered) h.next);
+        count_is = omega (arith, book.count_is, ap length more, length_push (log_of facts streaks) (turn_of h.last.common (h.last.turn + h.last.more + 1) []));
+        indexed = book.indexed;
+      }
 
   -- a book with a turn more that found nothing
   pub book_empty : (entry : Entry R) (dropped : Bool) (now : List Streak) → IsNumbered (alone entry dropped 0) → Joins streaks (alone entry dropped 0) now → IsBook valid settles cmp facts now (count + 1) places

@@ -45,6 +45,18 @@ pub record GoesOn (streak turn : Streak) : Type 0 where
 abbrev pub longer : Streak → Streak
 longer streak = record streak { more = streak.more + 1 }
 
+-- the last streak goes on
+pub record GoesLonger (old new : List Streak) : Type 0 where
+  pub before : List Streak
+  pub last : Streak
+  pub old_is : old ≡ before ++ last ∷ []
+  pub next : last.turn + last.more + 1 < 2 ^ 64
+  pub new_is : new ≡ before ++ longer last ∷ []
+
+-- the entry of one turn more like that of an entry, which finds nothing
+abbrev pub next_of : {R : Type 0} → Entry R → Entry R
+next_of entry = record entry { turn = entry.turn + 1; records = [] }
+
 -- one turn more: the last streak goes on, or there is one more
 abbrev pub Joins : List Streak → Streak → List Streak → Type 0
 Joins old turn new =

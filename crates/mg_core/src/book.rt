@@ -1,15 +1,16 @@
 //! The book that keeps a log.
-ghost use Rattle.std.specs.Prelude.{◌≡◌, ℕ, ◌+◌, ◌≤◌, ◌<◌, false, [], ◌∷◌, ◌++◌, length, IfSome, IfNone, IfOk, OnOk, OnErr};
+ghost use Rattle.std.specs.Prelude.{◌≡◌, ℕ, ◌+◌, ◌≤◌, ◌<◌, false, List, [], ◌∷◌, ◌++◌, length, IfSome, IfNone, IfOk, OnOk, OnErr};
 ghost use Rattle.std.specs.List.{AllByRecursion};
 ghost use Rattle.mg_core.specs.Log.{facts_of, IsFact, VerdictIn, Settled, Handed};
 ghost use Rattle.mg_core.specs.Book.{Commits};
-ghost use Rattle.mg_core.specs.Streaks.{IsNumbered, alone};
+ghost use Rattle.mg_core.specs.declared.entries.Entry.{Entry as EntryOf};
+ghost use Rattle.mg_core.specs.Streaks.{IsNumbered, alone, next_of};
 
 use crate::entries::{Committed, Entry, Facts};
 use crate::index::{place_among, place_for, put_place};
 use crate::record::Record;
 use crate::scan::{copy_of_facts, count_of, models_above, put_records};
-use crate::streaks::{Common, Entries, Streak, put_turn};
+use crate::streaks::{Common, Entries, Streak, go_on, put_turn};
 use mg_lists::NoMemory;
 use std::alloc::{AllocError, Global};
 use std::marker::Model;
@@ -97,6 +98,21 @@ impl<R: Record> Book<R> {
                 Ok(Committed::Kept { place })
             }
         }
+    }
+
+    /// Appends the entry of one turn more like that of the last entry, which finds nothing: of its search, with its
+    /// units, kept or dropped as it was. Where there is no memory the log stays as it was.
+    pub fn commit_next(&mut self) -> Result<(), NoMemory>
+        requires some { (before : List (EntryOf R)) × (last : EntryOf R) × (self.old ≡ before ++ last ∷ []) }
+        ensures ok { OnOk result ((before : List (EntryOf R)) (last : EntryOf R) → self.old ≡ before ++ last ∷ [] → self.new ≡ self.old ++ next_of last ∷ []) }
+        ensures err { OnErr result (self.new ≡ self.old) }
+    {
+        let Some(count) = self.count.checked_add(1) else {
+            return Err(AllocError);
+        };
+        go_on(&mut self.streaks)?;
+        self.count = count;
+        Ok(())
     }
 
     /// The first fact that settles the key, with its number; None exactly where there is none.

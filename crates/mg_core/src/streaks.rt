@@ -1,11 +1,13 @@
 //! The turns of a log. Those of one search that stand right behind one another and have the same in common are kept as
 //! one streak.
-ghost use Rattle.std.specs.Prelude.{◌≡◌, ◌↔◌, ◌∷◌, [], IsTrue, IfNone, IfSome, OnOk, OnErr};
+ghost use Rattle.std.specs.Prelude.{◌≡◌, ◌↔◌, List, ◌∷◌, [], ◌++◌, IsTrue, IfNone, IfSome, OnOk, OnErr};
 ghost use Rattle.std.specs.List.{AllByRecursion};
-ghost use Rattle.mg_core.specs.Streaks.{GoesOn, IsNumbered, Joins, Found, turn_of, log_of, entry_seen};
+ghost use Rattle.mg_core.specs.declared.streaks.Streak.{Streak as StreakOf};
+ghost use Rattle.mg_core.specs.Streaks.{GoesLonger, GoesOn, IsNumbered, Joins, Found, turn_of, log_of, entry_seen};
 
 use crate::entries::EntryView;
 use mg_lists::NoMemory;
+use std::alloc::AllocError;
 use std::marker::Model;
 
 /// What the turns of a streak have in common.
@@ -98,6 +100,22 @@ pub(crate) fn put_turn(streaks: &mut Vec<Streak>, turn: Streak) -> Result<(), No
         return Ok(());
     }
     streaks.push(turn)?;
+    Ok(())
+}
+
+/// One turn more of the last of these streaks, which finds nothing.
+pub(crate) fn go_on(streaks: &mut Vec<Streak>) -> Result<(), NoMemory>
+    requires some { (before : List StreakOf) × (last : StreakOf) × (streaks.old.items ≡ before ++ last ∷ []) }
+    requires numbered { AllByRecursion IsNumbered streaks.old.items }
+    ensures ok { OnOk result (GoesLonger streaks.old.items streaks.new.items) }
+    ensures err { OnErr result (streaks.new.items ≡ streaks.old.items) }
+{
+    let at = streaks.len() - 1;
+    let last = streaks[at];
+    if last.turn + last.more == u64::MAX {
+        return Err(AllocError);
+    }
+    streaks[at].more = last.more + 1;
     Ok(())
 }
 

@@ -189,6 +189,30 @@ fn lends_the_entries_in_order(rt: HostRuntime) -> Result<(), Fail> {
 }
 
 #[test]
+fn appends_next_entries(rt: HostRuntime) -> Result<(), Fail> {
+    let alloc = rt.alloc();
+    let mut book: Book<Mark> = Book::new(alloc);
+    book.commit(&7, entry(alloc, 0, false, 9)?)?;
+    book.commit_next()?;
+    book.commit_next()?;
+    assert_eq!(rt;
+        book.commit(&7, empty(alloc, 1, 3, 1))?,
+        Committed::Kept { place: 4 }
+    );
+    let mut entries = book.entries();
+    for seen in [
+        (1, 0, 1, false, 1),
+        (1, 1, 1, false, 0),
+        (1, 2, 1, false, 0),
+        (1, 3, 1, false, 0),
+    ] {
+        assert_eq!(rt; next(&mut entries), Some(seen));
+    }
+    assert_eq!(rt; next(&mut entries), None);
+    Ok(())
+}
+
+#[test]
 fn hands_out_models(rt: HostRuntime) -> Result<(), Fail> {
     let alloc = rt.alloc();
     let mut book: Book<Mark> = Book::new(alloc);

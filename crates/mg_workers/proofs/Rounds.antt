@@ -1,11 +1,14 @@
 -- Lemmas on one worker that goes round its searches.
 use Rattle.std.proofs.Common.{◌≡◌, ℕ, zero, suc, ◌+◌, ◌-◌, ◌<◌, ◌≤◌, ◌^◌, ◌↔◌, ◌⊎◌, inl, inr, min, Bool, true, false, cond, not, ◌||◌, ◌&&◌, List, [], ◌∷◌, ◌++◌, Some, length, get_or, map, take, drop, set, reverse, refl, ap, sym, ◌∙◌, subst, arith, append-nil, append_assoc}
-use Rattle.std.specs.Prelude.{slice_get, Result, Ok, Err, IsTrue, IsSome, IsNone, IfSome, IfOk}
+use Rattle.std.specs.Prelude.{slice_get, Result, Ok, Err, IsTrue, IsSome, IsNone, IfSome, IfOk, OnOk, Option}
 use Rattle.std.specs.List.{AllByRecursion}
 use Rattle.std.proofs.lemmas.List.{length-map, map-append, map-set, reverse-append}
 use Rattle.mg_core.specs.declared.entries.Entry.{Entry}
 use Rattle.mg_core.specs.declared.entries.Facts.{Facts}
 use Rattle.mg_core.specs.Book.{bare}
+use Rattle.mg_core.specs.Log.{facts_of, Settled, Handed}
+use Rattle.mg_core.specs.Streaks.{next_of}
+use Rattle.mg_core.proofs.Logs.{facts_of-append}
 use Rattle.mg_turn.specs.declared.outcome.Outcome.{Outcome}
 use Rattle.mg_turn.specs.declared.outcome.TurnEnd.{TurnEnd}
 use Rattle.mg_turn.specs.declared.outcome.TurnEnd.TheVariants.{More, Found, Closed, Idle, Stopped, Full}
@@ -14,10 +17,10 @@ use Rattle.mg_workers.specs.declared.held.Held.{Held}
 use Rattle.mg_workers.specs.declared.seat.Seat.{Seat}
 use Rattle.mg_workers.specs.declared.held.End.{End}
 use Rattle.mg_workers.specs.declared.held.End.TheVariants as ends
-use Rattle.mg_workers.specs.Run.{Row, Running, Begins, Runs, Finished, entry_of, row_after, end_after, leaves_at}
+use Rattle.mg_workers.specs.Run.{Row, Running, Begins, Event, Runs, Finished, entry_of, row_after, end_after, leaves_at}
 use Rattle.mg_workers.specs.Rows.{EachPair}
 use Rattle.mg_workers.specs.Round.{even, row_of, entered, IsFit, GoesRound}
-use Rattle.mg_workers.specs.Seats.{seat_of, row_at, seated, cells_of, turns_ahead}
+use Rattle.mg_workers.specs.Seats.{seat_of, row_at, seated, cells_of, turns_ahead, Follows, PutsDown, whole}
 use Rattle.mg_workers.proofs.Pairs.{all_at, all_set, only}
 use Rattle.mg_workers.proofs.Counts.{event_uses, total, total-set, chances}
 use Rattle.mg_workers.proofs.Events.{Happens, event_sound, runs_then, runs_push, runs_begins}
@@ -51,9 +54,30 @@ taken_back [] old n a b = subst (λ m. take m old ≡ []) a refl
 taken_back (x ∷ xs) [] n a b = absurd (omega arith)
 taken_back (x ∷ xs) (y ∷ ys) n a b = subst (λ m. take m ((x ∷ xs) ++ drop (suc (length xs)) (y ∷ ys)) ≡ x ∷ xs) a (ap (λ v. x ∷ v) (taken_back xs ys (length xs) refl (omega arith)))
 
+-- a list of one member
+pub one_member : {X : Type 0} (xs : List X) (d y : X) → 1 ≤ length xs → length xs < 2 → (xs ≡ get_or xs 0 d ∷ []) × (set xs 0 y ≡ y ∷ [])
+one_member [] d y some few = absurd (omega (arith, some))
+one_member (w ∷ []) d y some few = (refl, refl)
+one_member (w ∷ v ∷ ws) d y some few = absurd (omega (arith, few))
+
 pub if_ok : {T E : Type 0} (P Q : T → Type 0) → ((x : T) → P x → Q x) → (result : Result T E) → IfOk result P → IfOk result Q
 if_ok P Q imply (Ok x) h = imply x h
 if_ok P Q imply (Err e) h = tt
+
+-- what is settled by some facts is settled by the same facts
+settled_along : {R K : Type 0} (settles : R → Option K) (log other : List (Entry R)) (key : K) → facts_of log ≡ facts_of other → Settled settles log key → Settled settles other key
+settled_along settles log other key same h =
+    let n = h.0 in
+    let r = h.1 in
+    let verdict = h.2 in (
+      n,
+      r,
+      record {
+        fact = record { from_one = verdict.fact.from_one; there = ap (λ fs. slice_get fs (n - 1)) (sym same) ∙ verdict.fact.there };
+        verdict = verdict.verdict;
+        first = λ m q small fact. verdict.first m q small (record { from_one = fact.from_one; there = ap (λ fs. slice_get fs (m - 1)) same ∙ fact.there });
+      },
+    )
 
 -- what the changed member has as it had before stays
 map_stays : {X Y : Type 0} (f : X → Y) (xs : List X) (i : ℕ) (x y : X) → slice_get xs i ≡ Some x → f y ≡ f x → map f (set xs i y) ≡ map f xs
@@ -295,6 +319,23 @@ module _ {R K G S : Type 0} (recording : Recording R K G) (searching : Searching
       (subst (λ any. Goes before begin seats log any place_now) (sym some_is)
       (subst (λ at. Goes before begin seats log some at) (sym place_is) goes)))
 
+  -- a search alone goes on from the start of a round
+  pub goes_in : (seat : Seat S) (log : List (Entry R)) → IsFit searching (row_at seat) → Goes (seat ∷ []) log (seat ∷ []) log false 0
+  goes_in seat log fit = record {
+    runs = λ first begins. ([], refl);
+    fit = (fit, tt);
+    cells = refl;
+    fewer = omega arith;
+    over = λ none. tt;
+  }
+
+  pub goes_next : Sound recording searching → (start : Seat S) (begin : List (Entry R)) (seat after : Seat S) (log more : List (Entry R)) (some : Bool) →
+      ((first : List (Entry R)) → Begins first log → Happens recording searching 1 even first (seated (seat ∷ []) log) (seated (after ∷ []) more)) → after.held.cell ≡ seat.held.cell →
+      Goes (start ∷ []) begin (seat ∷ []) log some 0 → Goes (start ∷ []) begin (after ∷ []) more true 0
+  goes_next sound start begin seat after log more some turn cell goes =
+      let went = goes_on_by sound (start ∷ []) begin (seat ∷ []) log more some 0 seat after refl turn cell goes in
+      record { runs = went.runs; fit = went.fit; cells = went.cells; fewer = went.fewer; over = λ none. absurd (let bad : true ≡ false = none in cc) }
+
   -- how far one worker has come with its searches
   pub record Went (searches : List (Held S)) (begin : List (Entry R)) (seats : List (Seat S)) (log : List (Entry R)) : Type 0 where
     pub runs : Runs recording searching 1 even begin (entered searches begin) (seated seats log)
@@ -331,3 +372,107 @@ module _ {R K G S : Type 0} (recording : Recording R K G) (searching : Searching
     rows_are = subst (EachPair (λ (row : Row S) search. row ≡ row_of row.left row.looked search) (map row_at seats)) (sym after_is) (rows_are_held seats);
     cells = ap (map (λ (search : Held S). search.cell)) after_is ∙ cells_of_held seats ∙ went.cells;
   }
+
+-- the seats of searches that are fit are fit
+pub seats_fit : {R K G S : Type 0} (searching : Searching R K G S) (searches : List (Held S)) (seats now : List (Seat S)) → AllByRecursion (IsFit searching) (map (row_of false false) searches) → seats ≡ map seat_of searches → now ≡ seats → AllByRecursion (IsFit searching) (map row_at now)
+seats_fit searching searches seats now fit seats_are same = subst (AllByRecursion (IsFit searching)) (sym (ap (map row_at) (same ∙ seats_are) ∙ rows_of_new searches)) fit
+
+-- a run of one search is a run of the searches of which there is one
+pub runs_of_one : {R K G S : Type 0} (recording : Recording R K G) (searching : Searching R K G S) (seats now : List (Seat S)) (seat after : Seat S) (log more : List (Entry R)) → seats ≡ seat ∷ [] → now ≡ after ∷ [] →
+    ((first : List (Entry R)) → Begins first log → Runs recording searching 1 even first (seated (seat ∷ []) log) (seated (after ∷ []) more)) →
+    (first : List (Entry R)) → Begins first log → Runs recording searching 1 even first (seated seats log) (seated now more)
+runs_of_one recording searching seats now seat after log more was is run first begins =
+    subst (λ members. Runs recording searching 1 even first (seated seats log) (seated members more)) (sym is)
+    (subst (λ members. Runs recording searching 1 even first (seated members log) (seated (after ∷ []) more)) (sym was) (run first begins))
+
+-- a turn that is put down is an event
+module _ {R K G S : Type 0} (recording : Recording R K G) (searching : Searching R K G S) (seat after : Seat S) (log new : List (Entry R)) (search : S) (units : ℕ) (facts : Facts R) (outcome : Outcome R) (dropped : Bool) where
+  pub event_put : IsFit searching (row_at seat) → seat.left ≡ false → 1 ≤ seat.held.allowed → units ≡ min seat.held.allowed 1024 →
+      Handed recording.model_of log (searching.group seat.held.search) seat.held.read (searching.wants seat.held.search units) facts →
+      searching.turns seat.held.search units facts outcome search → searching.key search ≡ searching.key seat.held.search → (is_stopped outcome.end ≡ true → seat.looked ≡ false) →
+      PutsDown recording.settles (searching.key search) log (record seat { held = record (seat.held) { search = search } }) facts.upto outcome dropped new after →
+      (begin : List (Entry R)) → Begins begin log → Event recording searching 1 even begin (seated (seat ∷ []) log) (seated (after ∷ []) new)
+  event_put fit stays allowed size handed turn key once put begin before = record {
+    place = 0;
+    row = row_at seat;
+    of_row = refl;
+    stays = stays;
+    allowed = allowed;
+    openness = fit.openness stays allowed;
+    pass = 1;
+    pass_from = omega arith;
+    pass_upto = omega arith;
+    units = units;
+    is_size = size;
+    units_from = omega (arith, size, allowed);
+    units_upto = omega (arith, size);
+    seen = log;
+    seen_all_before = before;
+    seen_is_there = begins_itself log;
+    facts = facts;
+    handed = handed;
+    outcome = outcome;
+    search = search;
+    turn = turn;
+    dropped = dropped;
+    is_dropped = subst (λ k. (dropped ≡ true) ↔ Settled recording.settles log k) key put.is_dropped;
+    log = put.log_is;
+    rows = ap (λ row. row ∷ []) (put.row_is facts refl);
+    once = λ stopped kept. once stopped;
+  }
+
+-- after a whole turn that was kept, a next one may follow
+module _ {R K S : Type 0} (settles : R → Option K) (key : S → K) (log new : List (Entry R)) (seat after : Seat S) (facts : Facts R) where
+  follows_whole : PutsDown settles (key seat.held.search) log seat facts.upto whole false new after → after.held.turns < 2 ^ 64 - 1 → Follows settles (key after.held.search) new after
+  follows_whole put fewer =
+      let row = put.row_is facts refl in
+      let entry = entry_of {R = R} 1 (row_at seat) whole false in
+      let turn : after.held.turns ≡ min (seat.held.turns + 1) (2 ^ 64 - 1) = ap (λ (r : Row S). r.turns) row in
+      let next : entry.turn + 1 ≡ after.held.turns = omega (arith, turn, fewer) in
+      let number : after.held.number ≡ seat.held.number = ap (λ (r : Row S). r.number) row in
+      let search : after.held.search ≡ seat.held.search = ap (λ (r : Row S). r.search) row in
+      record {
+        before = log;
+        last = entry;
+        log_is = put.log_is;
+        next_is = ap (λ n. record (next_of entry) { turn = n }) next ∙ ap (λ n. record (entry_of {R = R} 1 (row_at after) whole false) { search = n }) (sym number);
+        stays = ap (λ (r : Row S). r.left) row;
+        unsettled = λ settled.
+            let same : facts_of new ≡ facts_of log = ap facts_of put.log_is ∙ facts_of-append log (entry ∷ []) ∙ append-nil (facts_of log) in
+            let here = subst (λ s. Settled settles new (key s)) search settled in
+            let was = put.is_dropped.1 (settled_along settles new log (key seat.held.search) same here) in
+            (let bad : false ≡ true = was in cc);
+      }
+
+  pub follows_put : (outcome : Outcome R) (dropped : Bool) → outcome ≡ whole → dropped ≡ false → PutsDown settles (key seat.held.search) log seat facts.upto outcome dropped new after → after.held.turns < 2 ^ 64 - 1 → Follows settles (key after.held.search) new after
+  follows_put outcome dropped made kept put =
+      follows_whole (subst (λ d. PutsDown settles (key seat.held.search) log seat facts.upto whole d new after) kept (subst (λ o. PutsDown settles (key seat.held.search) log seat facts.upto o dropped new after) made put))
+
+-- a whole turn of a search that may follow is put down by the entry next to the last one
+module _ {R K S : Type 0} (settles : R → Option K) (log new : List (Entry R)) (seat after : Seat S) (search : S) (upto : ℕ) where
+  pub put_next : (key was : K) → key ≡ was → (follows : Follows settles was log seat) → new ≡ log ++ next_of follows.last ∷ [] →
+      after.held ≡ (record (seat.held) {
+        search = search;
+        held = seat.held.held - 1024;
+        spent = seat.held.spent + 1024;
+        allowed = seat.held.allowed - 1024;
+        turns = min (seat.held.turns + 1) (2 ^ 64 - 1);
+        read = upto;
+        end = ends.More;
+      }) → after.left ≡ false → after.looked ≡ (seat.looked || false) →
+      PutsDown settles key log (record seat { held = record (seat.held) { search = search } }) upto whole false new after
+  put_next key was same follows log_is held left looked =
+      let with_search : Seat S = record seat { held = record (seat.held) { search = search } } in
+      record {
+        is_dropped = (λ bad. absurd (cc), λ settled. absurd (follows.unsettled (subst (λ k. Settled settles log k) same settled)));
+        log_is = log_is ∙ ap (λ entry. log ++ entry ∷ []) follows.next_is;
+        row_is = λ facts told.
+            row_is with_search after search (record facts { upto = upto }) whole false false ends.More refl refl held left looked
+            ∙ ap (λ u. row_after (row_at with_search) (record facts { upto = u }) whole false search) (sym told);
+        cell_is = ap (λ (h : Held S). h.cell) held;
+      }
+
+-- what follows of a success
+pub on_ok : {T E : Type 0} (P Q : Type 0) → (P → Q) → (result : Result T E) → OnOk result P → OnOk result Q
+on_ok P Q imply (Ok x) h = imply h
+on_ok P Q imply (Err e) h = tt

@@ -1,9 +1,14 @@
 -- Searches while one worker goes round them.
-use Rattle.std.specs.Prelude.{ℕ, ◌+◌, false, List, [], ◌∷◌, map, if◌then◌else◌}
+use Rattle.std.specs.Prelude.{◌≡◌, ℕ, ◌+◌, ◌↔◌, Bool, true, false, Option, List, [], ◌∷◌, ◌++◌, map, if◌then◌else◌}
 use Rattle.mg_core.specs.declared.entries.Entry.{Entry}
+use Rattle.mg_core.specs.declared.entries.Facts.{Facts}
+use Rattle.mg_core.specs.Log.{Settled}
+use Rattle.mg_core.specs.Streaks.{next_of}
+use Rattle.mg_turn.specs.declared.outcome.Outcome.{Outcome}
+use Rattle.mg_turn.specs.declared.outcome.TurnEnd.TheVariants as ended
 use Rattle.mg_workers.specs.declared.held.Held.{Held}
 use Rattle.mg_workers.specs.declared.seat.Seat.{Seat}
-use Rattle.mg_workers.specs.Run.{Row, Running}
+use Rattle.mg_workers.specs.Run.{Row, Running, entry_of, row_after}
 use Rattle.mg_workers.specs.Round.{row_of}
 
 -- a search that comes into a run
@@ -25,3 +30,24 @@ cells_of seats = map (λ seat. seat.held.cell) seats
 abbrev pub turns_ahead : {S : Type 0} → List (Row S) → ℕ
 turns_ahead [] = 0
 turns_ahead (row ∷ rows) = row.allowed + (if row.left then 0 else 1) + (if row.looked then 0 else 1) + turns_ahead rows
+
+-- a turn with this outcome, which was handed the models up to a fact, is counted, and its entry is in the log: dropped
+-- exactly where the key was settled
+pub record PutsDown {R K S : Type 0} (settles : R → Option K) (key : K) (old : List (Entry R)) (seat : Seat S) (upto : ℕ) (outcome : Outcome R) (dropped : Bool) (new : List (Entry R)) (after : Seat S) : Type 0 where
+  pub is_dropped : (dropped ≡ true) ↔ Settled settles old key
+  pub log_is : new ≡ old ++ entry_of 1 (row_at seat) outcome dropped ∷ []
+  pub row_is : (facts : Facts R) → facts.upto ≡ upto → row_at after ≡ row_after (row_at seat) facts outcome dropped seat.held.search
+  pub cell_is : after.held.cell ≡ seat.held.cell
+
+-- the outcome of a turn that spends the most units and finds nothing
+abbrev pub whole : {R : Type 0} → Outcome R
+whole = record { spent = 1024; end = ended.More }
+
+-- the search goes on, its key isn't settled, and a whole turn of it would put down an entry next to the log's last one
+pub record Follows {R K S : Type 0} (settles : R → Option K) (key : K) (log : List (Entry R)) (seat : Seat S) : Type 0 where
+  pub before : List (Entry R)
+  pub last : Entry R
+  pub log_is : log ≡ before ++ last ∷ []
+  pub next_is : next_of last ≡ entry_of 1 (row_at seat) whole false
+  pub stays : seat.left ≡ false
+  pub unsettled : Settled settles log key → ⊥

@@ -1,5 +1,5 @@
 //! One worker that goes round its searches.
-ghost use Rattle.std.specs.Prelude.{◌≡◌, ℕ, ◌+◌, ◌<◌, true, false, List, map, IfOk, OnOk};
+ghost use Rattle.std.specs.Prelude.{◌≡◌, ℕ, ◌+◌, ◌<◌, true, false, List, [], ◌∷◌, map, IfOk, OnOk};
 ghost use Rattle.std.specs.List.{AllByRecursion};
 ghost use Rattle.mg_core.specs.declared.entries.Entry.{Entry as EntryOf};
 ghost use Rattle.mg_turn.specs.Turn.{Recording, Searching};
@@ -9,7 +9,7 @@ ghost use Rattle.mg_workers.specs.Seats.{row_at, seated, cells_of, turns_ahead};
 
 use crate::held::HeldList;
 use crate::seat::{Seat, searches_of, seats_of};
-use crate::turns::take_turn;
+use crate::turns::{MOST_UNITS, take_next, take_turn};
 use mg_core::{Book, NoMemory, Record};
 use mg_turn::Searcher;
 use std::alloc::Global;
@@ -41,6 +41,52 @@ fn go_once<R: Record, S: Searcher<R>>(
     Ok(some)
 }
 
+/// Gives a search that is alone in its run turns, while each is like the one before it.
+fn go_alone<R: Record, S: Searcher<R>>(
+    alloc: Global,
+    book: &mut Book<R>,
+    seat: &mut Seat<S>,
+) -> Result<(), NoMemory>
+    requires { let searching : Searching R R.Key R.Group S = record { key = S.key_of; group = S.group_of; spent = S.spent_of; is_open = S.is_open_of; wants = S.wants_of; turns = S.turns } in
+        IsFit searching (row_at seat.old) }
+    ensures runs { let recording : Recording R R.Key R.Group = record { valid = R.valid; settles = R.settled; model_of = R.modelled } in
+        let searching : Searching R R.Key R.Group S = record { key = S.key_of; group = S.group_of; spent = S.spent_of; is_open = S.is_open_of; wants = S.wants_of; turns = S.turns } in
+        OnOk result ((begin : List (EntryOf R)) → Begins begin book.old → Runs recording searching 1 even begin (seated (seat.old ∷ []) book.old) (seated (seat.new ∷ []) book.new)) }
+    ensures fit { let searching : Searching R R.Key R.Group S = record { key = S.key_of; group = S.group_of; spent = S.spent_of; is_open = S.is_open_of; wants = S.wants_of; turns = S.turns } in
+        OnOk result (IsFit searching (row_at seat.new)) }
+    ensures cell { OnOk result (seat.new.held.cell ≡ seat.old.held.cell) }
+{
+    if !seat.goes_on() {
+        return Ok(());
+    }
+    let mut alike = take_turn(alloc, book, seat)?;
+    while alike && seat.held.allowed >= MOST_UNITS {
+        alike = take_next(alloc, book, seat)?;
+    }
+    Ok(())
+}
+
+/// Gives the one search turns, where there is one alone.
+fn go_first<R: Record, S: Searcher<R>>(
+    alloc: Global,
+    book: &mut Book<R>,
+    seats: &mut [Seat<S>],
+) -> Result<(), NoMemory>
+    requires { let searching : Searching R R.Key R.Group S = record { key = S.key_of; group = S.group_of; spent = S.spent_of; is_open = S.is_open_of; wants = S.wants_of; turns = S.turns } in
+        AllByRecursion (IsFit searching) (map row_at seats.old) }
+    ensures runs { let recording : Recording R R.Key R.Group = record { valid = R.valid; settles = R.settled; model_of = R.modelled } in
+        let searching : Searching R R.Key R.Group S = record { key = S.key_of; group = S.group_of; spent = S.spent_of; is_open = S.is_open_of; wants = S.wants_of; turns = S.turns } in
+        OnOk result ((begin : List (EntryOf R)) → Begins begin book.old → Runs recording searching 1 even begin (seated seats.old book.old) (seated seats.new book.new)) }
+    ensures fit { let searching : Searching R R.Key R.Group S = record { key = S.key_of; group = S.group_of; spent = S.spent_of; is_open = S.is_open_of; wants = S.wants_of; turns = S.turns } in
+        OnOk result (AllByRecursion (IsFit searching) (map row_at seats.new)) }
+    ensures cells { OnOk result (cells_of seats.new ≡ cells_of seats.old) }
+{
+    match seats {
+        [seat] => go_alone(alloc, book, seat),
+        _ => Ok(()),
+    }
+}
+
 /// Goes round the searches in their order, as the one worker, until each has left or has no allowed units. Each is
 /// given a turn of what it may spend, of at most 1,024 units, and the models that it wants above what it has read; the
 /// entry of the turn is committed directly after it. A search that turns out to be settled has its turn dropped and
@@ -57,6 +103,7 @@ pub fn go_round<R: Record, S: Searcher<R> + Drop>(
         IfOk result (λ after. GoesRound recording searching searches book.old after book.new) }
 {
     let mut seats = seats_of(alloc, searches)?;
+    go_first(alloc, book, &mut seats)?;
     while go_once(alloc, book, &mut seats)? {}
     searches_of(alloc, seats)
 }

@@ -1,5 +1,5 @@
 //! One turn of one search, and the entry that it puts into a book.
-ghost use Rattle.std.specs.Prelude.{◌≡◌, ℕ, ◌+◌, ◌≤◌, ◌^◌, ◌↔◌, Bool, true, false, List, [], ◌∷◌, ◌++◌, length, if◌then◌else◌, Some, IsSome, IfSome, IfOk, OnOk, option_copied};
+ghost use Rattle.std.specs.Prelude.{◌≡◌, ℕ, ◌+◌, ◌-◌, ◌≤◌, ◌<◌, ◌^◌, ◌↔◌, Bool, true, false, List, [], ◌∷◌, ◌++◌, length, if◌then◌else◌, Some, IsSome, IfSome, IfOk, OnOk, option_copied};
 ghost use Rattle.std.specs.List.{AllByRecursion};
 ghost use Rattle.mg_core.specs.declared.entries.Entry.{Entry as EntryOf};
 ghost use Rattle.mg_core.specs.Book.{bare};
@@ -7,7 +7,7 @@ ghost use Rattle.mg_core.specs.Log.{Settled};
 ghost use Rattle.mg_turn.specs.Turn.{Recording, Searching, IsSound, is_stopped, records_of};
 ghost use Rattle.mg_workers.specs.Round.{even, IsFit};
 ghost use Rattle.mg_workers.specs.Run.{Begins, Event, end_after};
-ghost use Rattle.mg_workers.specs.Seats.{row_at, seated};
+ghost use Rattle.mg_workers.specs.Seats.{row_at, seated, whole, Follows, PutsDown};
 
 use crate::held::End;
 use crate::seat::{Seat, Turned};
@@ -61,6 +61,27 @@ fn verdict<'a, R: Record>(book: &'a Book<R>, key: &R::Key) -> Option<&'a R>
     }
 }
 
+/// A turn of a search that is told nothing, and so isn't stopped.
+fn turn_untold<R: Record, S: Searcher<R>>(
+    alloc: Global,
+    search: &mut S,
+    units: u64,
+    facts: Facts<R>,
+) -> Result<Outcome<R>, NoMemory>
+    requires is_open { S.is_open_of search.old ≡ true }
+    requires some_units { 1 ≤ units }
+    requires in_all { S.spent_of search.old + units ≤ 2 ^ 62 }
+    requires few { length facts.records ≤ S.wants_of search.old units }
+    requires of_group { AllByRecursion (λ r. R.modelled r ≡ Some (S.group_of search.old)) facts.records }
+    ensures turns { IfOk result (λ outcome. S.turns search.old units facts outcome search.new) }
+    ensures sound { let recording : Recording R R.Key R.Group = record { valid = R.valid; settles = R.settled; model_of = R.modelled } in
+        let searching : Searching R R.Key R.Group S = record { key = S.key_of; group = S.group_of; spent = S.spent_of; is_open = S.is_open_of; wants = S.wants_of; turns = S.turns } in
+        IfOk result (λ outcome. IsSound recording searching search.old units facts outcome search.new) }
+    ensures once { IfOk result (λ outcome. is_stopped outcome.end ≡ false) }
+{
+    search.turn(alloc, units, facts, &mut Silent {})
+}
+
 /// A turn of a search, which is told of the book's verdict for its key unless it has looked.
 fn turn<R: Record, S: Searcher<R>>(
     alloc: Global,
@@ -82,7 +103,7 @@ fn turn<R: Record, S: Searcher<R>>(
     ensures once { IfOk result (λ outcome. is_stopped outcome.end ≡ true → looked ≡ false) }
 {
     if looked {
-        return search.turn(alloc, units, facts, &mut Silent {});
+        return turn_untold(alloc, search, units, facts);
     }
     let mut told = Told {
         verdict: verdict(book, search.key()),
@@ -141,33 +162,37 @@ fn commit<R: Record>(book: &mut Book<R>, key: &R::Key, entry: Entry<R>) -> Resul
     }
 }
 
-/// One turn of a search that goes on, whose entry is committed directly after it.
-pub(crate) fn take_turn<R: Record, S: Searcher<R>>(
+/// Whether a turn spent the most units and found nothing, so that its search goes on.
+fn is_whole<R>(outcome: &Outcome<R>) -> bool
+    ensures { result ≡ true → outcome.now ≡ whole }
+{
+    outcome.spent == MOST_UNITS && matches!(outcome.end, TurnEnd::More)
+}
+
+/// Whether a next turn may follow one, of which it is told whether it was whole and dropped, and how many turns its
+/// search has made.
+fn may_follow(is_whole: bool, dropped: bool, turns: u64) -> bool
+    ensures { result ≡ true → (is_whole ≡ true) × (dropped ≡ false) × (turns < 2 ^ 64 - 1) }
+{
+    is_whole && !dropped && turns < u64::MAX
+}
+
+/// Commits the entry of a turn with this outcome, which was handed the models up to this fact, counts the turn, and
+/// tells whether it was dropped.
+fn put_down<R: Record, S: Searcher<R>>(
     alloc: Global,
     book: &mut Book<R>,
     seat: &mut Seat<S>,
-) -> Result<(), NoMemory>
-    requires fit { let searching : Searching R R.Key R.Group S = record { key = S.key_of; group = S.group_of; spent = S.spent_of; is_open = S.is_open_of; wants = S.wants_of; turns = S.turns } in
-        IsFit searching (row_at seat.old) }
-    requires stays { seat.old.left ≡ false }
-    requires allowed { 1 ≤ seat.old.held.allowed }
-    ensures event { let recording : Recording R R.Key R.Group = record { valid = R.valid; settles = R.settled; model_of = R.modelled } in
-        let searching : Searching R R.Key R.Group S = record { key = S.key_of; group = S.group_of; spent = S.spent_of; is_open = S.is_open_of; wants = S.wants_of; turns = S.turns } in
-        OnOk result ((begin : List (EntryOf R)) → Begins begin book.old → Event recording searching 1 even begin (seated (seat.old ∷ []) book.old) (seated (seat.new ∷ []) book.new)) }
-    ensures cell { OnOk result (seat.new.held.cell ≡ seat.old.held.cell) }
+    upto: u64,
+    outcome: Outcome<R>,
+) -> Result<bool, NoMemory>
+    requires allowed { outcome.spent ≤ seat.old.held.allowed }
+    requires within { seat.old.held.allowed ≤ seat.old.held.held }
+    requires in_all { seat.old.held.spent + seat.old.held.held ≤ 2 ^ 62 }
+    requires few { length (records_of outcome.end) ≤ 2 }
+    requires of_key { AllByRecursion (λ r. IfSome (R.settled r) (λ k. k ≡ S.key_of seat.old.held.search)) (records_of outcome.end) }
+    ensures { IfOk result (λ dropped. PutsDown R.settled (S.key_of seat.old.held.search) book.old seat.old upto outcome dropped book.new seat.new) }
 {
-    let units = seat.held.allowed.min(MOST_UNITS);
-    let wants = seat.held.search.wants(units);
-    let facts = book.models(alloc, seat.held.search.group(), seat.held.read, wants)?;
-    let upto = facts.upto;
-    let outcome = turn(
-        alloc,
-        book,
-        &mut seat.held.search,
-        seat.looked,
-        units,
-        facts,
-    )?;
     let turned = Turned {
         spent: outcome.spent,
         upto,
@@ -184,5 +209,76 @@ pub(crate) fn take_turn<R: Record, S: Searcher<R>>(
     };
     let dropped = commit(book, seat.held.search.key(), entry)?;
     seat.count_turn(turned, dropped);
-    Ok(())
+    Ok(dropped)
+}
+
+/// One turn of a search that goes on, whose entry is committed directly after it. True only where it was given the
+/// most units, spent them and found nothing, and its search goes on.
+pub(crate) fn take_turn<R: Record, S: Searcher<R>>(
+    alloc: Global,
+    book: &mut Book<R>,
+    seat: &mut Seat<S>,
+) -> Result<bool, NoMemory>
+    requires fit { let searching : Searching R R.Key R.Group S = record { key = S.key_of; group = S.group_of; spent = S.spent_of; is_open = S.is_open_of; wants = S.wants_of; turns = S.turns } in
+        IsFit searching (row_at seat.old) }
+    requires stays { seat.old.left ≡ false }
+    requires allowed { 1 ≤ seat.old.held.allowed }
+    ensures event { let recording : Recording R R.Key R.Group = record { valid = R.valid; settles = R.settled; model_of = R.modelled } in
+        let searching : Searching R R.Key R.Group S = record { key = S.key_of; group = S.group_of; spent = S.spent_of; is_open = S.is_open_of; wants = S.wants_of; turns = S.turns } in
+        OnOk result ((begin : List (EntryOf R)) → Begins begin book.old → Event recording searching 1 even begin (seated (seat.old ∷ []) book.old) (seated (seat.new ∷ []) book.new)) }
+    ensures cell { OnOk result (seat.new.held.cell ≡ seat.old.held.cell) }
+    ensures alike { IfOk result (λ alike. alike ≡ true → Follows R.settled (S.key_of seat.new.held.search) book.new seat.new) }
+{
+    let units = seat.held.allowed.min(MOST_UNITS);
+    let wants = seat.held.search.wants(units);
+    let facts = book.models(alloc, seat.held.search.group(), seat.held.read, wants)?;
+    let upto = facts.upto;
+    let outcome = turn(
+        alloc,
+        book,
+        &mut seat.held.search,
+        seat.looked,
+        units,
+        facts,
+    )?;
+    let whole = is_whole(&outcome);
+    let dropped = put_down(alloc, book, seat, upto, outcome)?;
+    Ok(may_follow(whole, dropped, seat.held.turns))
+}
+
+/// One turn more of a search whose last turn is the last one in the log and was given the most units, spent them and
+/// found nothing. So the book still has no verdict to tell it of, and an entry like that of its last turn can be
+/// committed without looking for one.
+pub(crate) fn take_next<R: Record, S: Searcher<R>>(
+    alloc: Global,
+    book: &mut Book<R>,
+    seat: &mut Seat<S>,
+) -> Result<bool, NoMemory>
+    requires fit { let searching : Searching R R.Key R.Group S = record { key = S.key_of; group = S.group_of; spent = S.spent_of; is_open = S.is_open_of; wants = S.wants_of; turns = S.turns } in
+        IsFit searching (row_at seat.old) }
+    requires follows { Follows R.settled (S.key_of seat.old.held.search) book.old seat.old }
+    requires allowed { 1024 ≤ seat.old.held.allowed }
+    ensures event { let recording : Recording R R.Key R.Group = record { valid = R.valid; settles = R.settled; model_of = R.modelled } in
+        let searching : Searching R R.Key R.Group S = record { key = S.key_of; group = S.group_of; spent = S.spent_of; is_open = S.is_open_of; wants = S.wants_of; turns = S.turns } in
+        OnOk result ((begin : List (EntryOf R)) → Begins begin book.old → Event recording searching 1 even begin (seated (seat.old ∷ []) book.old) (seated (seat.new ∷ []) book.new)) }
+    ensures cell { OnOk result (seat.new.held.cell ≡ seat.old.held.cell) }
+    ensures alike { IfOk result (λ alike. alike ≡ true → Follows R.settled (S.key_of seat.new.held.search) book.new seat.new) }
+{
+    let wants = seat.held.search.wants(MOST_UNITS);
+    let facts = book.models(alloc, seat.held.search.group(), seat.held.read, wants)?;
+    let upto = facts.upto;
+    let outcome = turn_untold(alloc, &mut seat.held.search, MOST_UNITS, facts)?;
+    if !is_whole(&outcome) {
+        put_down(alloc, book, seat, upto, outcome)?;
+        return Ok(false);
+    }
+    book.commit_next()?;
+    let turned = Turned {
+        spent: MOST_UNITS,
+        upto,
+        stopped: false,
+        kept: End::More,
+    };
+    seat.count_turn(turned, false);
+    Ok(may_follow(true, false, seat.held.turns))
 }

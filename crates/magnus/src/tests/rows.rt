@@ -55,6 +55,54 @@ search derive granted 21 spent 21 held 0 returned 0 end found
 end
 ";
 
+const ALONE: &[u8] = b"group S3 = < a, b | a^2, b^3, (a b)^2 >
+ask q : b a b = a in S3
+fund 30000
+grant q derive 30000
+run 3000
+run
+report
+report log
+";
+
+const ALONE_REPORT: &[u8] = b"report
+funded 30000 purse 6250
+question q YES fact 1
+group < a , b | a^2 , b^3 , a b a b >
+subgroup < >
+goals < b a b a^-1 >
+yes derivation a r1^-1 r3 a^-1 ;
+search derive granted 30000 spent 23750 held 0 returned 6250 end found
+end
+log
+entry 1 pass 1 search 1 turn 0 units 1024 kept 0
+entry 2 pass 1 search 1 turn 1 units 1024 kept 0
+entry 3 pass 1 search 1 turn 2 units 952 kept 0
+entry 4 pass 1 search 1 turn 3 units 1024 kept 0
+entry 5 pass 1 search 1 turn 4 units 1024 kept 0
+entry 6 pass 1 search 1 turn 5 units 1024 kept 0
+entry 7 pass 1 search 1 turn 6 units 1024 kept 0
+entry 8 pass 1 search 1 turn 7 units 1024 kept 0
+entry 9 pass 1 search 1 turn 8 units 1024 kept 0
+entry 10 pass 1 search 1 turn 9 units 1024 kept 0
+entry 11 pass 1 search 1 turn 10 units 1024 kept 0
+entry 12 pass 1 search 1 turn 11 units 1024 kept 0
+entry 13 pass 1 search 1 turn 12 units 1024 kept 0
+entry 14 pass 1 search 1 turn 13 units 1024 kept 0
+entry 15 pass 1 search 1 turn 14 units 1024 kept 0
+entry 16 pass 1 search 1 turn 15 units 1024 kept 0
+entry 17 pass 1 search 1 turn 16 units 1024 kept 0
+entry 18 pass 1 search 1 turn 17 units 1024 kept 0
+entry 19 pass 1 search 1 turn 18 units 1024 kept 0
+entry 20 pass 1 search 1 turn 19 units 1024 kept 0
+entry 21 pass 1 search 1 turn 20 units 1024 kept 0
+entry 22 pass 1 search 1 turn 21 units 1024 kept 0
+entry 23 pass 1 search 1 turn 22 units 1024 kept 0
+entry 24 pass 1 search 1 turn 23 units 270 kept 1
+sum 1 q derive units 23750
+end
+";
+
 const IDENTITY: &[u8] = b"group G = < a | a^2 >
 ask q : 1 = 1 in G
 fund 100
@@ -454,6 +502,12 @@ fn subgroups_and_maps_are_asked_about(rt: HostRuntime) -> Result<(), Fail> {
 fn searches_share_one_log(rt: HostRuntime) -> Result<(), Fail> {
     assert!(rt; prints(&rt, SHARED, SHARED_REPORT)?);
     assert!(rt; prints(&rt, SEVERAL, SEVERAL_REPORT)?);
+    Ok(())
+}
+
+#[test]
+fn a_search_alone_makes_many_turns(rt: HostRuntime) -> Result<(), Fail> {
+    assert!(rt; prints(&rt, ALONE, ALONE_REPORT)?);
     Ok(())
 }
 

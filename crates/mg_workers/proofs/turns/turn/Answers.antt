@@ -1,14 +1,8 @@
 use Rattle.mg_workers.proofs.Rounds.{if_ok}
 use Rattle.mg_workers.proofs.turns.turn.Goals as goal
 
-pub returns-then-looked-clause-sound : goal.returns-then-looked-clause-sound
-returns-then-looked-clause-sound g c =
+pub returns-clause-sound : goal.returns-clause-sound
+returns-clause-sound g c =
     if_ok (λ outcome. g.S.Searcher.turns c.args.search.now c.args.units c.args.facts outcome c.turn.new.self) _
     (λ outcome made. g.met.S.Searcher.sound c.args.search.now c.args.units c.args.facts outcome c.turn.new.self c.requires.is_open c.requires.some_units (record { few = c.requires.few; of_group = c.requires.of_group }) made)
     c.turn.result c.turn.ensures.turns
-
-pub returns-clause-sound : goal.returns-clause-sound
-returns-clause-sound g c =
-    if_ok (λ outcome. g.S.Searcher.turns c.args.search.now c.args.units c.args.facts outcome c.turn-2.new.self) _
-    (λ outcome made. g.met.S.Searcher.sound c.args.search.now c.args.units c.args.facts outcome c.turn-2.new.self c.requires.is_open c.requires.some_units (record { few = c.requires.few; of_group = c.requires.of_group }) made)
-    c.turn-2.result c.turn-2.ensures.turns
