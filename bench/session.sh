@@ -1,14 +1,15 @@
 #!/usr/bin/env bash
 # How fast sessions run, in seconds of processor time, the kernel's counted in. First the median of nine runs of the proved
 # program on a script of 1,000 questions about 33 groups with 500 units each; then on one question with 100,000,000 units, in
-# turns of 1,024 units; then on a script of the greatest size, which is only read and resolved. Last, in four groups, 4,000,000
-# turns of 1,024 units: in a session, and by the search called alone; of these the least of nine runs, taken in turn, since others
-# on the machine only add. The small program that calls the search is written into a copy of the repository, proved and built
-# there, which takes a few minutes. Run `rt ci` first; it leaves the program at crates/magnus/out/magnus.
+# turns of 1,024 units; then on a script of the greatest size, which is only read and resolved. Last, in four groups, one
+# question with as many units, in a session and by the search called alone in the same turns: the least of nine times ten runs, taken
+# in turn, since others on the machine only add, with the units a second. TURNS sets another number of turns. The small
+# program that calls the search is written into a copy of the repository, proved and built there, which takes a few minutes. Run
+# `rt ci` first; it leaves the program at crates/magnus/out/magnus.
 cd "$(dirname "$0")/.." || exit 1
 program=crates/magnus/out/magnus
 units=${UNITS:-100000000}
-turns=${TURNS:-4000000}
+turns=${TURNS:-97657}
 [ -x "$program" ] || { echo "no $program: run 'rt ci' or 'rt run' in crates/magnus first" >&2; exit 1; }
 work=$(mktemp -d)
 trap 'rm -rf "$work"' EXIT
@@ -19,6 +20,13 @@ seconds() {
   file=$1
   shift
   { time "$@" < "$file" > /dev/null; } 2>&1 | awk '{ printf "%.3f\n", $1 + $2 }'
+}
+
+# The seconds of ten such runs.
+tens() {
+  file=$1
+  shift
+  { time for _ in 1 2 3 4 5 6 7 8 9 10; do "$@" < "$file" > /dev/null; done; } 2>&1 | awk '{ printf "%.3f\n", $1 + $2 }'
 }
 
 # The median seconds of the program on a script.
@@ -222,10 +230,14 @@ compare() {
   one "$2" "$((turns * 1024))" > "$work/turns"
   rm -f "$work/session" "$work/alone"
   for _ in 1 2 3 4 5 6 7 8 9; do
-    seconds "$work/turns" "$program" run >> "$work/session"
-    seconds /dev/null "$crate/out/bare" "$turns" "$1" >> "$work/alone"
+    tens "$work/turns" "$program" run >> "$work/session"
+    tens /dev/null "$crate/out/bare" "$turns" "$1" >> "$work/alone"
   done
-  echo "$turns turns in < $2 >: $(least "$work/session") s in a session, $(least "$work/alone") s alone"
+  awk -v session="$(least "$work/session")" -v alone="$(least "$work/alone")" -v turns="$turns" -v group="$2" 'BEGIN {
+    units = turns * 1024 / 1e8
+    printf "%d turns in < %s >, thousand million units a second: %.2f in a session, %.2f alone; ", turns, group, units / session, units / alone
+    printf "a session takes %.1f %% longer\n", 100 * (session / alone - 1)
+  }'
 }
 
 compare 1 'a | a^12, a^18'
