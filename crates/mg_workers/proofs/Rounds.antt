@@ -423,8 +423,8 @@ module _ {R K G S : Type 0} (recording : Recording R K G) (searching : Searching
 
 -- after a whole turn that was kept, a next one may follow
 module _ {R K S : Type 0} (settles : R → Option K) (key : S → K) (log new : List (Entry R)) (seat after : Seat S) (facts : Facts R) where
-  follows_whole : PutsDown settles (key seat.held.search) log seat facts.upto whole false new after → after.held.turns < 2 ^ 64 - 1 → Follows settles (key after.held.search) new after
-  follows_whole put fewer =
+  follows_whole : PutsDown settles (key seat.held.search) log seat facts.upto whole false new after → after.looked ≡ false → after.held.turns < 2 ^ 64 - 1 → Follows settles (key after.held.search) new after
+  follows_whole put unlooked fewer =
       let row = put.row_is facts refl in
       let entry = entry_of {R = R} 1 (row_at seat) whole false in
       let turn : after.held.turns ≡ min (seat.held.turns + 1) (2 ^ 64 - 1) = ap (λ (r : Row S). r.turns) row in
@@ -437,6 +437,7 @@ module _ {R K S : Type 0} (settles : R → Option K) (key : S → K) (log new : 
         log_is = put.log_is;
         next_is = ap (λ n. record (next_of entry) { turn = n }) next ∙ ap (λ n. record (entry_of {R = R} 1 (row_at after) whole false) { search = n }) (sym number);
         stays = ap (λ (r : Row S). r.left) row;
+        unlooked = unlooked;
         unsettled = λ settled.
             let same : facts_of new ≡ facts_of log = ap facts_of put.log_is ∙ facts_of-append log (entry ∷ []) ∙ append-nil (facts_of log) in
             let here = subst (λ s. Settled settles new (key s)) search settled in
@@ -444,7 +445,7 @@ module _ {R K S : Type 0} (settles : R → Option K) (key : S → K) (log new : 
             (let bad : false ≡ true = was in cc);
       }
 
-  pub follows_put : (outcome : Outcome R) (dropped : Bool) → outcome ≡ whole → dropped ≡ false → PutsDown settles (key seat.held.search) log seat facts.upto outcome dropped new after → after.held.turns < 2 ^ 64 - 1 → Follows settles (key after.held.search) new after
+  pub follows_put : (outcome : Outcome R) (dropped : Bool) → outcome ≡ whole → dropped ≡ false → PutsDown settles (key seat.held.search) log seat facts.upto outcome dropped new after → after.looked ≡ false → after.held.turns < 2 ^ 64 - 1 → Follows settles (key after.held.search) new after
   follows_put outcome dropped made kept put =
       follows_whole (subst (λ d. PutsDown settles (key seat.held.search) log seat facts.upto whole d new after) kept (subst (λ o. PutsDown settles (key seat.held.search) log seat facts.upto o dropped new after) made put))
 

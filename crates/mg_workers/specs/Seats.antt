@@ -43,11 +43,13 @@ pub record PutsDown {R K S : Type 0} (settles : R → Option K) (key : K) (old :
 abbrev pub whole : {R : Type 0} → Outcome R
 whole = record { spent = 1024; end = ended.More }
 
--- the search goes on, its key isn't settled, and a whole turn of it would put down an entry next to the log's last one
+-- the search goes on and hasn't looked, its key isn't settled, and a whole turn of it would put down an entry next to the
+-- log's last one
 pub record Follows {R K S : Type 0} (settles : R → Option K) (key : K) (log : List (Entry R)) (seat : Seat S) : Type 0 where
   pub before : List (Entry R)
   pub last : Entry R
   pub log_is : log ≡ before ++ last ∷ []
   pub next_is : next_of last ≡ entry_of 1 (row_at seat) whole false
   pub stays : seat.left ≡ false
+  pub unlooked : seat.looked ≡ false
   pub unsettled : Settled settles log key → ⊥

@@ -1,5 +1,5 @@
 //! One turn of one search, and the entry that it puts into a book.
-ghost use Rattle.std.specs.Prelude.{◌≡◌, ℕ, ◌+◌, ◌-◌, ◌≤◌, ◌<◌, ◌^◌, ◌↔◌, Bool, true, false, List, [], ◌∷◌, ◌++◌, length, if◌then◌else◌, Some, IsSome, IfSome, IfOk, OnOk, option_copied};
+ghost use Rattle.std.specs.Prelude.{◌≡◌, ℕ, ◌+◌, ◌-◌, ◌≤◌, ◌<◌, ◌^◌, ◌↔◌, Bool, true, false, List, [], ◌∷◌, ◌++◌, length, if◌then◌else◌, Some, IsSome, IfSome, IfOk, OnOk, IsTrue, option_copied};
 ghost use Rattle.std.specs.List.{AllByRecursion};
 ghost use Rattle.mg_core.specs.declared.entries.Entry.{Entry as EntryOf};
 ghost use Rattle.mg_core.specs.Book.{bare};
@@ -51,9 +51,9 @@ impl<R: Record> Stop<R> for Silent {
     }
 }
 
-/// The record that settles the key in the book, if there is one.
+/// The record that settles the key in the book; None exactly where there is none.
 fn verdict<'a, R: Record>(book: &'a Book<R>, key: &R::Key) -> Option<&'a R>
-    ensures { IsSome (option_copied result) → Settled R.settled book.now key.now }
+    ensures { IsSome (option_copied result) ↔ Settled R.settled book.now key.now }
 {
     match book.verdict(key) {
         Some((_, record)) => Some(record),
@@ -62,6 +62,8 @@ fn verdict<'a, R: Record>(book: &'a Book<R>, key: &R::Key) -> Option<&'a R>
 }
 
 /// A turn of a search that is told nothing, and so isn't stopped.
+#[cold]
+#[inline(never)]
 fn turn_untold<R: Record, S: Searcher<R>>(
     alloc: Global,
     search: &mut S,
@@ -77,9 +79,34 @@ fn turn_untold<R: Record, S: Searcher<R>>(
     ensures sound { let recording : Recording R R.Key R.Group = record { valid = R.valid; settles = R.settled; model_of = R.modelled } in
         let searching : Searching R R.Key R.Group S = record { key = S.key_of; group = S.group_of; spent = S.spent_of; is_open = S.is_open_of; wants = S.wants_of; turns = S.turns } in
         IfOk result (λ outcome. IsSound recording searching search.old units facts outcome search.new) }
-    ensures once { IfOk result (λ outcome. is_stopped outcome.end ≡ false) }
+    ensures unstopped { IfOk result (λ outcome. is_stopped outcome.end ≡ false) }
 {
     search.turn(alloc, units, facts, &mut Silent {})
+}
+
+/// A turn of a search that is told of the book's verdict for its key.
+#[inline(always)]
+fn turn_told<R: Record, S: Searcher<R>>(
+    alloc: Global,
+    book: &Book<R>,
+    search: &mut S,
+    units: u64,
+    facts: Facts<R>,
+) -> Result<Outcome<R>, NoMemory>
+    requires is_open { S.is_open_of search.old ≡ true }
+    requires some_units { 1 ≤ units }
+    requires in_all { S.spent_of search.old + units ≤ 2 ^ 62 }
+    requires few { length facts.records ≤ S.wants_of search.old units }
+    requires of_group { AllByRecursion (λ r. R.modelled r ≡ Some (S.group_of search.old)) facts.records }
+    ensures turns { IfOk result (λ outcome. S.turns search.old units facts outcome search.new) }
+    ensures sound { let recording : Recording R R.Key R.Group = record { valid = R.valid; settles = R.settled; model_of = R.modelled } in
+        let searching : Searching R R.Key R.Group S = record { key = S.key_of; group = S.group_of; spent = S.spent_of; is_open = S.is_open_of; wants = S.wants_of; turns = S.turns } in
+        IfOk result (λ outcome. IsSound recording searching search.old units facts outcome search.new) }
+{
+    let mut told = Told {
+        verdict: verdict(book, search.key()),
+    };
+    search.turn(alloc, units, facts, &mut told)
 }
 
 /// A turn of a search, which is told of the book's verdict for its key unless it has looked.
@@ -103,12 +130,10 @@ fn turn<R: Record, S: Searcher<R>>(
     ensures once { IfOk result (λ outcome. is_stopped outcome.end ≡ true → looked ≡ false) }
 {
     if looked {
-        return turn_untold(alloc, search, units, facts);
+        turn_untold(alloc, search, units, facts)
+    } else {
+        turn_told(alloc, book, search, units, facts)
     }
-    let mut told = Told {
-        verdict: verdict(book, search.key()),
-    };
-    search.turn(alloc, units, facts, &mut told)
 }
 
 /// Whether a turn with this end was stopped.
@@ -164,17 +189,17 @@ fn commit<R: Record>(book: &mut Book<R>, key: &R::Key, entry: Entry<R>) -> Resul
 
 /// Whether a turn spent the most units and found nothing, so that its search goes on.
 fn is_whole<R>(outcome: &Outcome<R>) -> bool
-    ensures { result ≡ true → outcome.now ≡ whole }
+    ensures { IsTrue result ↔ (outcome.now ≡ whole) }
 {
     outcome.spent == MOST_UNITS && matches!(outcome.end, TurnEnd::More)
 }
 
-/// Whether a next turn may follow one, of which it is told whether it was whole and dropped, and how many turns its
-/// search has made.
-fn may_follow(is_whole: bool, dropped: bool, turns: u64) -> bool
-    ensures { result ≡ true → (is_whole ≡ true) × (dropped ≡ false) × (turns < 2 ^ 64 - 1) }
+/// Whether a next turn may follow one, of which it is told whether it was whole and dropped, whether its search has
+/// looked, and how many turns that has made.
+fn may_follow(is_whole: bool, dropped: bool, looked: bool, turns: u64) -> bool
+    ensures { IsTrue result ↔ ((is_whole ≡ true) × (dropped ≡ false) × (looked ≡ false) × (turns < 2 ^ 64 - 1)) }
 {
-    is_whole && !dropped && turns < u64::MAX
+    is_whole && !dropped && !looked && turns < u64::MAX
 }
 
 /// Commits the entry of a turn with this outcome, which was handed the models up to this fact, counts the turn, and
@@ -243,12 +268,12 @@ pub(crate) fn take_turn<R: Record, S: Searcher<R>>(
     )?;
     let whole = is_whole(&outcome);
     let dropped = put_down(alloc, book, seat, upto, outcome)?;
-    Ok(may_follow(whole, dropped, seat.held.turns))
+    Ok(may_follow(whole, dropped, seat.looked, seat.held.turns))
 }
 
 /// One turn more of a search whose last turn is the last one in the log and was given the most units, spent them and
-/// found nothing. So the book still has no verdict to tell it of, and an entry like that of its last turn can be
-/// committed without looking for one.
+/// found nothing. So the book still has no verdict for its key, and an entry like that of its last turn can be committed
+/// without looking for one.
 pub(crate) fn take_next<R: Record, S: Searcher<R>>(
     alloc: Global,
     book: &mut Book<R>,
@@ -267,7 +292,7 @@ pub(crate) fn take_next<R: Record, S: Searcher<R>>(
     let wants = seat.held.search.wants(MOST_UNITS);
     let facts = book.models(alloc, seat.held.search.group(), seat.held.read, wants)?;
     let upto = facts.upto;
-    let outcome = turn_untold(alloc, &mut seat.held.search, MOST_UNITS, facts)?;
+    let outcome = turn_told(alloc, book, &mut seat.held.search, MOST_UNITS, facts)?;
     if !is_whole(&outcome) {
         put_down(alloc, book, seat, upto, outcome)?;
         return Ok(false);
@@ -280,5 +305,5 @@ pub(crate) fn take_next<R: Record, S: Searcher<R>>(
         kept: End::More,
     };
     seat.count_turn(turned, false);
-    Ok(may_follow(true, false, seat.held.turns))
+    Ok(may_follow(true, false, false, seat.held.turns))
 }

@@ -26,6 +26,6 @@ returns-clause-event g c =
 
 pub returns-clause-alike : goal.returns-clause-alike
 returns-clause-alike g c alike =
-    let told = c.may_follow.ensures alike in
+    let told = c.may_follow.ensures.0 alike in
     follows_put g.R.Record.settled g.S.Searcher.key_of c.args.book.now c.put_down.new.book (record (c.args.seat.now) { held = record (c.args.seat.now.held) { search = c.turn.new.search } }) c.put_down.new.seat c.in_ok-facts.facts
-    c.in_ok-outcome.outcome c.in_ok-dropped.dropped (c.is_whole-whole.ensures told.0) told.1 c.in_ok-dropped.ensures told.2
+    c.in_ok-outcome.outcome c.in_ok-dropped.dropped (c.is_whole-whole.ensures.0 told.0) told.1 c.in_ok-dropped.ensures told.2 told.3

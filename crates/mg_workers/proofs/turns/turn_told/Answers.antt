@@ -1,5 +1,5 @@
 use Rattle.mg_workers.proofs.Rounds.{if_ok}
-use Rattle.mg_workers.proofs.turns.turn.Goals as goal
+use Rattle.mg_workers.proofs.turns.turn_told.Goals as goal
 
 pub returns-clause-sound : goal.returns-clause-sound
 returns-clause-sound g c =
