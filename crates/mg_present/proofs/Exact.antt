@@ -15,9 +15,9 @@ use Rattle.mg_present.specs.Ask.{Inquiry}
 abbrev pub group_cmp : Group → Group → Ordering
 group_cmp a b = ordering_then (nat_cmp a.generators b.generators) (words_cmp a.relators b.relators)
 
--- by the group, the subgroup words and the goals
+-- by the goals, the subgroup words and the group
 abbrev pub ask_cmp : Inquiry → Inquiry → Ordering
-ask_cmp a b = ordering_then (group_cmp a.group b.group) (ordering_then (words_cmp a.subgroup b.subgroup) (words_cmp a.goals b.goals))
+ask_cmp a b = ordering_then (words_cmp a.goals b.goals) (ordering_then (words_cmp a.subgroup b.subgroup) (group_cmp a.group b.group))
 
 both_equal : (o p : Ordering) → ordering_then o p ≡ Equal → (o ≡ Equal) × (p ≡ Equal)
 both_equal Less p e = cc
@@ -31,7 +31,7 @@ pub group_total : IsTotalOrder group_cmp
 group_total = then_total (on_total (λ a. a.generators) nat_cmp_total) (on_total (λ a. a.relators) words_total)
 
 pub ask_total : IsTotalOrder ask_cmp
-ask_total = then_total (on_total (λ a. a.group) group_total) (then_total (on_total (λ a. a.subgroup) words_total) (on_total (λ a. a.goals) words_total))
+ask_total = then_total (on_total (λ a. a.goals) words_total) (then_total (on_total (λ a. a.subgroup) words_total) (on_total (λ a. a.group) group_total))
 
 pub group_exact : (a b : Group) → group_cmp a b ≡ Equal → a ≡ b
 group_exact a b e =
@@ -42,11 +42,11 @@ group_exact a b e =
 
 pub ask_exact : (a b : Inquiry) → ask_cmp a b ≡ Equal → a ≡ b
 ask_exact a b e =
-    let first = both_equal (group_cmp a.group b.group) (ordering_then (words_cmp a.subgroup b.subgroup) (words_cmp a.goals b.goals)) e in
-    let rest = both_equal (words_cmp a.subgroup b.subgroup) (words_cmp a.goals b.goals) first.1 in
-    let group = group_exact a.group b.group first.0 in
+    let first = both_equal (words_cmp a.goals b.goals) (ordering_then (words_cmp a.subgroup b.subgroup) (group_cmp a.group b.group)) e in
+    let rest = both_equal (words_cmp a.subgroup b.subgroup) (group_cmp a.group b.group) first.1 in
+    let goals = words_exact a.goals b.goals first.0 in
     let subgroup = words_exact a.subgroup b.subgroup rest.0 in
-    let goals = words_exact a.goals b.goals rest.1 in
+    let group = group_exact a.group b.group rest.1 in
     λ i. record { group = group i; subgroup = subgroup i; goals = goals i }
 
 pub group_itself : (a b : Group) → a ≡ b → group_cmp a b ≡ Equal

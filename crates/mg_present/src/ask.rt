@@ -16,9 +16,10 @@ pub const MOST_GOALS: usize = 4_096;
 /// their whole content.
 #[derive(Debug, PartialEq, Eq, PartialOrd, Ord, Drop)]
 pub struct Ask {
-    group: Presentation,
-    subgroup: Words,
+    // The goals are compared first: Asks of one session are mostly about one group and differ in their goals.
     goals: Words,
+    subgroup: Words,
+    group: Presentation,
 }
 
 impl Model for Ask {
