@@ -15,8 +15,8 @@ use mg_lists::NoMemory;
 use std::alloc::{AllocError, Global};
 use std::marker::Model;
 
-/// A log, seen as the list of its entries. Its facts are numbered from 1. Turns of one search that follow one another
-/// and find nothing take no memory of their own.
+/// A log, seen as the list of its entries. Its facts are numbered from 1. A turn that finds nothing takes no memory of
+/// its own where it stands right behind a turn of its search and has its pass, its units and its fate in common with it.
 #[derive(Drop)]
 pub struct Book<R: Record> {
     /// The facts, in order.
