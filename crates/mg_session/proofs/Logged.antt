@@ -1,5 +1,5 @@
 -- What is printed of entries and of sums.
-use Rattle.std.proofs.Common.{◌≡◌, ℕ, zero, suc, ◌+◌, ◌<◌, true, List, [], ◌∷◌, ◌++◌, length, map, take, refl, ap, sym, ◌∙◌, subst, append_assoc, arith, add-one}
+use Rattle.std.proofs.Common.{◌≡◌, ℕ, ◌+◌, ◌<◌, true, List, [], ◌∷◌, ◌++◌, length, map, take, refl, ap, sym, ◌∙◌, subst, append_assoc, arith}
 use Rattle.std.specs.Prelude.{Some, slice_get}
 use Rattle.std.specs.List.{AllByRecursion}
 use Rattle.std.proofs.lemmas.List.{map-append}
@@ -19,24 +19,15 @@ use Rattle.mg_session.specs.State.{State, SearchState, asks, row_of}
 use Rattle.mg_session.specs.Output.{line_of, IsSumLine}
 use Rattle.mg_session.specs.StateOk.{IsAsked, Stands, StateOk}
 use Rattle.mg_session.specs.Lookups.{IsAt, IsTooLate, HasCause}
+use Rattle.mg_session.proofs.Firsts.{pairs_more}
 use Rattle.mg_session.proofs.Looked.{IsSearchOf, search_of_entry}
 use Rattle.mg_session.proofs.Settling.{settled_grows}
 
--- one pair more
-pairs_more : {X Y : Type 0} (R : X → Y → Type 0) (xs : List X) (i : ℕ) (x : X) (ys : List Y) (y : Y) → slice_get xs i ≡ Some x → EachPair R (take i xs) ys → R x y → EachPair R (take (suc i) xs) (ys ++ y ∷ [])
-pairs_more R [] i x ys y there each is = absurd (cc there)
-pairs_more R (w ∷ xs) zero x [] y there each is = let same : w ≡ x = cc there in (subst (λ z. R z y) (sym same) is, tt)
-pairs_more R (w ∷ xs) zero x (v ∷ ys) y there each is = absurd each
-pairs_more R (w ∷ xs) (suc i) x [] y there each is = absurd each
-pairs_more R (w ∷ xs) (suc i) x (v ∷ ys) y there each is = (each.0, pairs_more R xs i x ys y there each.1 is)
-
-pub pairs_next : {X Y : Type 0} (R : X → Y → Type 0) (xs : List X) (i : ℕ) (x : X) (ys : List Y) (y : Y) → slice_get xs i ≡ Some x → EachPair R (take i xs) ys → R x y → EachPair R (take (i + 1) xs) (ys ++ y ∷ [])
-pairs_next R xs i x ys y there each is = rw add-one (pairs_more R xs i x ys y there each is)
-
+-- a printed value more, of the member at a place
 pub pairs_pushed : {X V Y : Type 0} (R : X → Y → Type 0) (f : V → Y) (xs : List X) (i : ℕ) (x : X) (vs new : List V) (v : V) → new ≡ vs ++ v ∷ [] → slice_get xs i ≡ Some x → EachPair R (take i xs) (map f vs) → R x (f v) → EachPair R (take (i + 1) xs) (map f new)
 pairs_pushed R f xs i x vs new v pushed there each is =
     let all : map f new ≡ map f vs ++ f v ∷ [] = ap (map f) pushed ∙ map-append f vs (v ∷ []) in
-    subst (EachPair R (take (i + 1) xs)) (sym all) (pairs_next R xs i x (map f vs) (f v) there each is)
+    subst (EachPair R (take (i + 1) xs)) (sym all) (pairs_more R xs (map f vs) i x (f v) there is each)
 
 -- one pair more behind those that there are
 pairs_behind : {X Y : Type 0} (R : X → Y → Type 0) (xs : List X) (x : X) (ys : List Y) (y : Y) → EachPair R xs ys → R x y → EachPair R (xs ++ x ∷ []) (ys ++ y ∷ [])
