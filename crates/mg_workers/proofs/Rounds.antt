@@ -1,5 +1,5 @@
 -- Lemmas on one worker that goes round its searches.
-use Rattle.std.proofs.Common.{◌≡◌, ℕ, zero, suc, ◌+◌, ◌-◌, ◌<◌, ◌≤◌, ◌^◌, ◌↔◌, ◌⊎◌, inl, inr, min, Bool, true, false, cond, not, ◌||◌, ◌&&◌, List, [], ◌∷◌, ◌++◌, Some, length, get_or, map, take, drop, set, reverse, refl, ap, sym, ◌∙◌, subst, arith, append-nil, append_assoc}
+use Rattle.std.proofs.Common.{◌≡◌, ℕ, zero, suc, ◌+◌, ◌-◌, ◌*◌, ◌<◌, ◌≤◌, ◌^◌, ◌↔◌, ◌⊎◌, inl, inr, min, Bool, true, false, cond, not, ◌||◌, ◌&&◌, List, [], ◌∷◌, ◌++◌, Some, length, get_or, map, take, drop, set, reverse, refl, ap, sym, ◌∙◌, subst, arith, append-nil, append_assoc}
 use Rattle.std.specs.Prelude.{slice_get, Result, Ok, Err, IsTrue, IsSome, IsNone, IfSome, IfOk, OnOk, Option}
 use Rattle.std.specs.List.{AllByRecursion}
 use Rattle.std.proofs.lemmas.List.{length-map, map-append, map-set, reverse-append}
@@ -20,7 +20,7 @@ use Rattle.mg_workers.specs.declared.held.End.TheVariants as ends
 use Rattle.mg_workers.specs.Run.{Row, Running, Begins, Event, Runs, Finished, entry_of, row_after, end_after, leaves_at}
 use Rattle.mg_workers.specs.Rows.{EachPair}
 use Rattle.mg_workers.specs.Round.{even, row_of, entered, IsFit, GoesRound}
-use Rattle.mg_workers.specs.Seats.{seat_of, row_at, seated, cells_of, turns_ahead, Follows, PutsDown, whole}
+use Rattle.mg_workers.specs.Seats.{seat_of, row_at, seated, cells_of, turns_ahead, Follows, PutsDown, whole, after_whole}
 use Rattle.mg_workers.proofs.Pairs.{all_at, all_set, only}
 use Rattle.mg_workers.proofs.Counts.{event_uses, total, total-set, chances}
 use Rattle.mg_workers.proofs.Events.{Happens, event_sound, runs_then, runs_push, runs_begins}
@@ -319,22 +319,36 @@ module _ {R K G S : Type 0} (recording : Recording R K G) (searching : Searching
       (subst (λ any. Goes before begin seats log any place_now) (sym some_is)
       (subst (λ at. Goes before begin seats log some at) (sym place_is) goes)))
 
-  -- a search alone goes on from the start of a round
-  pub goes_in : (seat : Seat S) (log : List (Entry R)) → IsFit searching (row_at seat) → Goes (seat ∷ []) log (seat ∷ []) log false 0
-  goes_in seat log fit = record {
-    runs = λ first begins. ([], refl);
-    fit = (fit, tt);
-    cells = refl;
-    fewer = omega arith;
-    over = λ none. tt;
+  -- what a run of a search alone has come to: it leads from the start to here, and the search is fit
+  pub record Alone (start : Seat S) (begin : List (Entry R)) (here : Seat S) (log : List (Entry R)) : Type 0 where
+    pub runs : (first : List (Entry R)) → Begins first begin → Runs recording searching 1 even first (seated (start ∷ []) begin) (seated (here ∷ []) log)
+    pub fit : IsFit searching (row_at here)
+
+  pub alone_in : (seat : Seat S) (log : List (Entry R)) → IsFit searching (row_at seat) → Alone seat log seat log
+  alone_in seat log fit = record { runs = λ first begins. ([], refl); fit = fit }
+
+  pub alone_next : Sound recording searching → (start : Seat S) (begin : List (Entry R)) (seat after : Seat S) (log more : List (Entry R)) →
+      ((first : List (Entry R)) → Begins first log → Happens recording searching 1 even first (seated (seat ∷ []) log) (seated (after ∷ []) more)) →
+      Alone start begin seat log → Alone start begin after more
+  alone_next sound start begin seat after log more turn alone = record {
+    runs = λ first begins.
+        let run = alone.runs first begins in
+        let grown = runs_begins recording searching 1 even first (seated (start ∷ []) begin) (seated (seat ∷ []) log) run in
+        runs_push recording searching 1 even first (seated (start ∷ []) begin) (seated (seat ∷ []) log) (seated (after ∷ []) more) run (turn first (begins_then first begin log begins grown));
+    fit = (event_fits recording searching 1 even log sound (seated (seat ∷ []) log) (seated (after ∷ []) more) (alone.fit, tt) (turn log (begins_itself log))).0;
   }
 
-  pub goes_next : Sound recording searching → (start : Seat S) (begin : List (Entry R)) (seat after : Seat S) (log more : List (Entry R)) (some : Bool) →
-      ((first : List (Entry R)) → Begins first log → Happens recording searching 1 even first (seated (seat ∷ []) log) (seated (after ∷ []) more)) → after.held.cell ≡ seat.held.cell →
-      Goes (start ∷ []) begin (seat ∷ []) log some 0 → Goes (start ∷ []) begin (after ∷ []) more true 0
-  goes_next sound start begin seat after log more some turn cell goes =
-      let went = goes_on_by sound (start ∷ []) begin (seat ∷ []) log more some 0 seat after refl turn cell goes in
-      record { runs = went.runs; fit = went.fit; cells = went.cells; fewer = went.fewer; over = λ none. absurd (let bad : true ≡ false = none in cc) }
+  -- and it may go on by another run
+  pub alone_then : (start : Seat S) (begin : List (Entry R)) (seat after : Seat S) (log more : List (Entry R)) →
+      ((first : List (Entry R)) → Begins first log → Runs recording searching 1 even first (seated (seat ∷ []) log) (seated (after ∷ []) more)) → IsFit searching (row_at after) →
+      Alone start begin seat log → Alone start begin after more
+  alone_then start begin seat after log more run fit alone = record {
+    runs = λ first begins.
+        let before = alone.runs first begins in
+        let grown = runs_begins recording searching 1 even first (seated (start ∷ []) begin) (seated (seat ∷ []) log) before in
+        runs_then recording searching 1 even first (seated (start ∷ []) begin) (seated (seat ∷ []) log) (seated (after ∷ []) more) before (run first (begins_then first begin log begins grown));
+    fit = fit;
+  }
 
   -- how far one worker has come with its searches
   pub record Went (searches : List (Held S)) (begin : List (Entry R)) (seats : List (Seat S)) (log : List (Entry R)) : Type 0 where
@@ -423,7 +437,7 @@ module _ {R K G S : Type 0} (recording : Recording R K G) (searching : Searching
 
 -- after a whole turn that was kept, a next one may follow
 module _ {R K S : Type 0} (settles : R → Option K) (key : S → K) (log new : List (Entry R)) (seat after : Seat S) (facts : Facts R) where
-  follows_whole : PutsDown settles (key seat.held.search) log seat facts.upto whole false new after → after.looked ≡ false → after.held.turns < 2 ^ 64 - 1 → Follows settles (key after.held.search) new after
+  pub follows_whole : PutsDown settles (key seat.held.search) log seat facts.upto whole false new after → after.looked ≡ false → seat.held.turns < 2 ^ 64 - 1 → Follows settles (key after.held.search) new after
   follows_whole put unlooked fewer =
       let row = put.row_is facts refl in
       let entry = entry_of {R = R} 1 (row_at seat) whole false in
@@ -437,6 +451,7 @@ module _ {R K S : Type 0} (settles : R → Option K) (key : S → K) (log new : 
         log_is = put.log_is;
         next_is = ap (λ n. record (next_of entry) { turn = n }) next ∙ ap (λ n. record (entry_of {R = R} 1 (row_at after) whole false) { search = n }) (sym number);
         stays = ap (λ (r : Row S). r.left) row;
+        goes_on = ap (λ (r : Row S). r.end) row;
         unlooked = unlooked;
         unsettled = λ settled.
             let same : facts_of new ≡ facts_of log = ap facts_of put.log_is ∙ facts_of-append log (entry ∷ []) ∙ append-nil (facts_of log) in
@@ -446,8 +461,10 @@ module _ {R K S : Type 0} (settles : R → Option K) (key : S → K) (log new : 
       }
 
   pub follows_put : (outcome : Outcome R) (dropped : Bool) → outcome ≡ whole → dropped ≡ false → PutsDown settles (key seat.held.search) log seat facts.upto outcome dropped new after → after.looked ≡ false → after.held.turns < 2 ^ 64 - 1 → Follows settles (key after.held.search) new after
-  follows_put outcome dropped made kept put =
-      follows_whole (subst (λ d. PutsDown settles (key seat.held.search) log seat facts.upto whole d new after) kept (subst (λ o. PutsDown settles (key seat.held.search) log seat facts.upto o dropped new after) made put))
+  follows_put outcome dropped made kept put unlooked fewer =
+      let down = subst (λ d. PutsDown settles (key seat.held.search) log seat facts.upto whole d new after) kept (subst (λ o. PutsDown settles (key seat.held.search) log seat facts.upto o dropped new after) made put) in
+      let turn : after.held.turns ≡ min (seat.held.turns + 1) (2 ^ 64 - 1) = ap (λ (r : Row S). r.turns) (down.row_is facts refl) in
+      follows_whole down unlooked (omega (arith, turn, fewer))
 
 -- a whole turn of a search that may follow is put down by the entry next to the last one
 module _ {R K S : Type 0} (settles : R → Option K) (log new : List (Entry R)) (seat after : Seat S) (search : S) (upto : ℕ) where
@@ -472,6 +489,88 @@ module _ {R K S : Type 0} (settles : R → Option K) (log new : List (Entry R)) 
             ∙ ap (λ u. row_after (row_at with_search) (record facts { upto = u }) whole false search) (sym told);
         cell_is = ap (λ (h : Held S). h.cell) held;
       }
+
+-- a whole turn more
+module _ {R K S : Type 0} (settles : R → Option K) (log new : List (Entry R)) (seat : Seat S) (made : ℕ) (search after : S) (read upto : ℕ) where
+  pub put_whole : (key was : K) → key ≡ was → (follows : Follows settles was log (after_whole seat made search read)) → new ≡ log ++ next_of follows.last ∷ [] → seat.held.turns + made < 2 ^ 64 - 1 →
+      PutsDown settles key log (after_whole seat made after read) upto whole false new (after_whole seat (made + 1) after upto)
+  put_whole key was same follows log_is fewer =
+      let held : seat.held.held - 1024 * (made + 1) ≡ seat.held.held - 1024 * made - 1024 = omega arith in
+      let spent : seat.held.spent + 1024 * (made + 1) ≡ seat.held.spent + 1024 * made + 1024 = omega arith in
+      let allowed : seat.held.allowed - 1024 * (made + 1) ≡ seat.held.allowed - 1024 * made - 1024 = omega arith in
+      let turns : seat.held.turns + (made + 1) ≡ min (seat.held.turns + made + 1) (2 ^ 64 - 1) = omega (arith, fewer) in
+      put_next settles log new (after_whole seat made search read) (after_whole seat (made + 1) after upto) after upto key was same follows log_is
+      (λ i. record (seat.held) { search = after; held = held i; spent = spent i; allowed = allowed i; turns = turns i; read = upto; end = follows.goes_on i })
+      follows.stays (follows.unlooked ∙ sym (ap (λ l. l || false) follows.unlooked))
+
+-- no whole turn
+pub after_none : {S : Type 0} (seat : Seat S) → after_whole seat 0 seat.held.search seat.held.read ≡ seat
+after_none seat =
+    let held : seat.held.held - 1024 * 0 ≡ seat.held.held = omega arith in
+    let spent : seat.held.spent + 1024 * 0 ≡ seat.held.spent = omega arith in
+    let allowed : seat.held.allowed - 1024 * 0 ≡ seat.held.allowed = omega arith in
+    let turns : seat.held.turns + 0 ≡ seat.held.turns = omega arith in
+    λ i. record seat { held = record (seat.held) { held = held i; spent = spent i; allowed = allowed i; turns = turns i } }
+
+-- how far a search alone has come with its whole turns, of which it may make so many; they aren't counted yet
+pub record Wholly {R K G S : Type 0} (recording : Recording R K G) (searching : Searching R K G S) (start : Seat S) (begin : List (Entry R)) (seat : Seat S) (log : List (Entry R)) (made most read : ℕ) : Type 0 where
+  pub same : seat ≡ record start { held = record (start.held) { search = seat.held.search } }
+  pub alone : Alone recording searching start begin (after_whole start made seat.held.search read) log
+  pub follows : Follows recording.settles (searching.key seat.held.search) log (after_whole start made seat.held.search read)
+  pub upto : made ≤ most
+  pub enough : 1024 * most ≤ start.held.allowed
+  pub fewer : start.held.turns + most < 2 ^ 64
+
+module _ {R K G S : Type 0} (recording : Recording R K G) (searching : Searching R K G S) where
+  pub wholly_in : (seat : Seat S) (log : List (Entry R)) (most : ℕ) → IsFit searching (row_at seat) → Follows recording.settles (searching.key seat.held.search) log seat → 1024 * most ≤ seat.held.allowed → seat.held.turns + most < 2 ^ 64 →
+      Wholly recording searching seat log seat log 0 most seat.held.read
+  wholly_in seat log most fit follows enough fewer =
+      let none = after_none seat in
+      record {
+        same = refl;
+        alone = subst (λ here. Alone recording searching seat log here log) (sym none) (alone_in recording searching seat log fit);
+        follows = subst (λ here. Follows recording.settles (searching.key seat.held.search) log here) (sym none) follows;
+        upto = omega arith;
+        enough = enough;
+        fewer = fewer;
+      }
+
+  module _ (start : Seat S) (begin : List (Entry R)) (seat : Seat S) (log : List (Entry R)) (made most read : ℕ) (wholly : Wholly recording searching start begin seat log made most read) where
+    -- and they are counted
+    pub wholly_out : (counted : Seat S) → counted ≡ after_whole seat made seat.held.search read → Alone recording searching start begin counted log
+    wholly_out counted is = subst (λ here. Alone recording searching start begin here log) (sym (is ∙ ap (λ s. after_whole s made seat.held.search read) wholly.same)) wholly.alone
+
+    module _ (sound : Sound recording searching) (more : made < most) (search : S) (facts : Facts R) (outcome : Outcome R) (new : List (Entry R))
+        (handed : Handed recording.model_of log (searching.group seat.held.search) read (searching.wants seat.held.search 1024) facts)
+        (turn : searching.turns seat.held.search 1024 facts outcome search) (key : searching.key search ≡ searching.key seat.held.search) where
+      -- a turn with the most units, whatever it comes to
+      wholly_then : (dropped : Bool) (after : Seat S) → PutsDown recording.settles (searching.key search) log (after_whole start made search read) facts.upto outcome dropped new after → Alone recording searching start begin after new
+      wholly_then dropped after put =
+          let here = after_whole start made seat.held.search read in
+          alone_next recording searching sound start begin here after log new
+          (event_put recording searching here after log new search 1024 facts outcome dropped wholly.alone.fit wholly.follows.stays (omega (arith, wholly.enough, more)) (omega (arith, wholly.enough, more)) handed turn key (λ stopped. wholly.follows.unlooked) put)
+          wholly.alone
+
+      pub wholly_last : (dropped : Bool) (counted after : Seat S) → counted ≡ after_whole seat made search read →
+          PutsDown recording.settles (searching.key counted.held.search) log counted facts.upto outcome dropped new after → Alone recording searching start begin after new
+      wholly_last dropped counted after is put =
+          wholly_then dropped after
+          (subst (λ s. PutsDown recording.settles (searching.key s.held.search) log s facts.upto outcome dropped new after) (is ∙ ap (λ s. after_whole s made search read) wholly.same) put)
+
+      pub wholly_next : outcome ≡ whole → new ≡ log ++ next_of wholly.follows.last ∷ [] → Wholly recording searching start begin (record seat { held = record (seat.held) { search = search } }) new (made + 1) most facts.upto
+      wholly_next is log_is =
+          let before = after_whole start made search read in
+          let after = after_whole start (made + 1) search facts.upto in
+          let fewer : start.held.turns + made < 2 ^ 64 - 1 = omega (arith, wholly.fewer, more) in
+          let put = put_whole recording.settles log new start made seat.held.search search read facts.upto (searching.key search) (searching.key seat.held.search) key wholly.follows log_is fewer in
+          record {
+            same = ap (λ (s : Seat S). record s { held = record (s.held) { search = search } }) wholly.same;
+            alone = wholly_then false after (subst (λ o. PutsDown recording.settles (searching.key search) log before facts.upto o false new after) (sym is) put);
+            follows = follows_whole recording.settles searching.key log new before after facts put wholly.follows.unlooked fewer;
+            upto = omega (arith, more);
+            enough = wholly.enough;
+            fewer = wholly.fewer;
+          }
 
 -- what follows of a success
 pub on_ok : {T E : Type 0} (P Q : Type 0) → (P → Q) → (result : Result T E) → OnOk result P → OnOk result Q

@@ -1,5 +1,5 @@
 -- Searches while one worker goes round them.
-use Rattle.std.specs.Prelude.{◌≡◌, ℕ, ◌+◌, ◌↔◌, Bool, true, false, Option, List, [], ◌∷◌, ◌++◌, map, if◌then◌else◌}
+use Rattle.std.specs.Prelude.{◌≡◌, ℕ, ◌+◌, ◌-◌, ◌*◌, ◌↔◌, Bool, true, false, Option, List, [], ◌∷◌, ◌++◌, map, if◌then◌else◌}
 use Rattle.mg_core.specs.declared.entries.Entry.{Entry}
 use Rattle.mg_core.specs.declared.entries.Facts.{Facts}
 use Rattle.mg_core.specs.Log.{Settled}
@@ -7,6 +7,7 @@ use Rattle.mg_core.specs.Streaks.{next_of}
 use Rattle.mg_turn.specs.declared.outcome.Outcome.{Outcome}
 use Rattle.mg_turn.specs.declared.outcome.TurnEnd.TheVariants as ended
 use Rattle.mg_workers.specs.declared.held.Held.{Held}
+use Rattle.mg_workers.specs.declared.held.End.TheVariants.{More}
 use Rattle.mg_workers.specs.declared.seat.Seat.{Seat}
 use Rattle.mg_workers.specs.Run.{Row, Running, entry_of, row_after}
 use Rattle.mg_workers.specs.Round.{row_of}
@@ -51,5 +52,19 @@ pub record Follows {R K S : Type 0} (settles : R → Option K) (key : K) (log : 
   pub log_is : log ≡ before ++ last ∷ []
   pub next_is : next_of last ≡ entry_of 1 (row_at seat) whole false
   pub stays : seat.left ≡ false
+  pub goes_on : seat.held.end ≡ More
   pub unlooked : seat.looked ≡ false
   pub unsettled : Settled settles log key → ⊥
+
+-- a seat after so many whole turns, with its search as it is then and the last fact that it has read
+abbrev pub after_whole : {S : Type 0} → Seat S → ℕ → S → ℕ → Seat S
+after_whole seat made search read = record seat {
+  held = record (seat.held) {
+    search = search;
+    held = seat.held.held - 1024 * made;
+    spent = seat.held.spent + 1024 * made;
+    allowed = seat.held.allowed - 1024 * made;
+    turns = seat.held.turns + made;
+    read = read;
+  };
+}

@@ -9,7 +9,7 @@ ghost use Rattle.mg_workers.specs.Seats.{row_at, seated, cells_of, turns_ahead};
 
 use crate::held::HeldList;
 use crate::seat::{Seat, searches_of, seats_of};
-use crate::turns::{MOST_UNITS, take_next, take_turn};
+use crate::turns::{take_turn, take_whole_turns};
 use mg_core::{Book, NoMemory, Record};
 use mg_turn::Searcher;
 use std::alloc::Global;
@@ -41,7 +41,7 @@ fn go_once<R: Record, S: Searcher<R>>(
     Ok(some)
 }
 
-/// Gives a search that is alone in its run turns, while each is like the one before it.
+/// Gives a search that is alone in its run a turn, and where that is whole, more of them.
 fn go_alone<R: Record, S: Searcher<R>>(
     alloc: Global,
     book: &mut Book<R>,
@@ -59,9 +59,8 @@ fn go_alone<R: Record, S: Searcher<R>>(
     if !seat.goes_on() {
         return Ok(());
     }
-    let mut alike = take_turn(alloc, book, seat)?;
-    while alike && seat.held.allowed >= MOST_UNITS {
-        alike = take_next(alloc, book, seat)?;
+    if take_turn(alloc, book, seat)? {
+        take_whole_turns(alloc, book, seat)?;
     }
     Ok(())
 }

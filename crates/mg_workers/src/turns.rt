@@ -1,12 +1,12 @@
 //! One turn of one search, and the entry that it puts into a book.
-ghost use Rattle.std.specs.Prelude.{◌≡◌, ℕ, ◌+◌, ◌-◌, ◌≤◌, ◌<◌, ◌^◌, ◌↔◌, Bool, true, false, List, [], ◌∷◌, ◌++◌, length, if◌then◌else◌, Some, IsSome, IfSome, IfOk, OnOk, IsTrue, option_copied};
+ghost use Rattle.std.specs.Prelude.{◌≡◌, ℕ, ◌+◌, ◌-◌, ◌/◌, ◌≤◌, ◌<◌, ◌^◌, ◌↔◌, min, Bool, true, false, List, [], ◌∷◌, ◌++◌, length, if◌then◌else◌, Some, IsSome, IfSome, IfOk, OnOk, IsTrue, option_copied};
 ghost use Rattle.std.specs.List.{AllByRecursion};
 ghost use Rattle.mg_core.specs.declared.entries.Entry.{Entry as EntryOf};
 ghost use Rattle.mg_core.specs.Book.{bare};
 ghost use Rattle.mg_core.specs.Log.{Settled};
 ghost use Rattle.mg_turn.specs.Turn.{Recording, Searching, IsSound, is_stopped, records_of};
 ghost use Rattle.mg_workers.specs.Round.{even, IsFit};
-ghost use Rattle.mg_workers.specs.Run.{Begins, Event, end_after};
+ghost use Rattle.mg_workers.specs.Run.{Begins, Event, Runs, end_after};
 ghost use Rattle.mg_workers.specs.Seats.{row_at, seated, whole, Follows, PutsDown};
 
 use crate::held::End;
@@ -194,7 +194,7 @@ fn is_whole<R>(outcome: &Outcome<R>) -> bool
     outcome.spent == MOST_UNITS && matches!(outcome.end, TurnEnd::More)
 }
 
-/// Whether a next turn may follow one, of which it is told whether it was whole and dropped, whether its search has
+/// Whether whole turns may follow a turn, of which it is told whether it was whole and dropped, whether its search has
 /// looked, and how many turns that has made.
 fn may_follow(is_whole: bool, dropped: bool, looked: bool, turns: u64) -> bool
     ensures { IsTrue result ↔ ((is_whole ≡ true) × (dropped ≡ false) × (looked ≡ false) × (turns < 2 ^ 64 - 1)) }
@@ -271,39 +271,50 @@ pub(crate) fn take_turn<R: Record, S: Searcher<R>>(
     Ok(may_follow(whole, dropped, seat.looked, seat.held.turns))
 }
 
-/// One turn more of a search whose last turn is the last one in the log and was given the most units, spent them and
-/// found nothing. So the book still has no verdict for its key, and an entry like that of its last turn can be committed
-/// without looking for one.
-pub(crate) fn take_next<R: Record, S: Searcher<R>>(
+/// How many whole turns a search may make that may spend so many units and has made so many turns.
+fn most_whole(allowed: u64, turns: u64) -> u64
+    ensures value { result ≡ min (allowed / 1024) (2 ^ 64 - 1 - turns) }
+    ensures counted { turns + result < 2 ^ 64 }
+{
+    (allowed / MOST_UNITS).min(u64::MAX - turns)
+}
+
+/// Whole turns of a search, one after another, until one isn't whole or too few units are left for one. The last turn
+/// of the search stands last in the log and was whole. So the book has no verdict for its key, and the entry of each
+/// whole turn, which is committed directly after it, needs no second look. The search's account is brought up to date
+/// where it stops; where there is no memory it isn't.
+pub(crate) fn take_whole_turns<R: Record, S: Searcher<R>>(
     alloc: Global,
     book: &mut Book<R>,
     seat: &mut Seat<S>,
-) -> Result<bool, NoMemory>
+) -> Result<(), NoMemory>
     requires fit { let searching : Searching R R.Key R.Group S = record { key = S.key_of; group = S.group_of; spent = S.spent_of; is_open = S.is_open_of; wants = S.wants_of; turns = S.turns } in
         IsFit searching (row_at seat.old) }
     requires follows { Follows R.settled (S.key_of seat.old.held.search) book.old seat.old }
-    requires allowed { 1024 ≤ seat.old.held.allowed }
-    ensures event { let recording : Recording R R.Key R.Group = record { valid = R.valid; settles = R.settled; model_of = R.modelled } in
+    ensures runs { let recording : Recording R R.Key R.Group = record { valid = R.valid; settles = R.settled; model_of = R.modelled } in
         let searching : Searching R R.Key R.Group S = record { key = S.key_of; group = S.group_of; spent = S.spent_of; is_open = S.is_open_of; wants = S.wants_of; turns = S.turns } in
-        OnOk result ((begin : List (EntryOf R)) → Begins begin book.old → Event recording searching 1 even begin (seated (seat.old ∷ []) book.old) (seated (seat.new ∷ []) book.new)) }
+        OnOk result ((begin : List (EntryOf R)) → Begins begin book.old → Runs recording searching 1 even begin (seated (seat.old ∷ []) book.old) (seated (seat.new ∷ []) book.new)) }
+    ensures fit { let searching : Searching R R.Key R.Group S = record { key = S.key_of; group = S.group_of; spent = S.spent_of; is_open = S.is_open_of; wants = S.wants_of; turns = S.turns } in
+        OnOk result (IsFit searching (row_at seat.new)) }
     ensures cell { OnOk result (seat.new.held.cell ≡ seat.old.held.cell) }
-    ensures alike { IfOk result (λ alike. alike ≡ true → Follows R.settled (S.key_of seat.new.held.search) book.new seat.new) }
 {
-    let wants = seat.held.search.wants(MOST_UNITS);
-    let facts = book.models(alloc, seat.held.search.group(), seat.held.read, wants)?;
-    let upto = facts.upto;
-    let outcome = turn_told(alloc, book, &mut seat.held.search, MOST_UNITS, facts)?;
-    if !is_whole(&outcome) {
-        put_down(alloc, book, seat, upto, outcome)?;
-        return Ok(false);
+    let most = most_whole(seat.held.allowed, seat.held.turns);
+    let mut read = seat.held.read;
+    let mut made = 0;
+    while made < most {
+        let wants = seat.held.search.wants(MOST_UNITS);
+        let facts = book.models(alloc, seat.held.search.group(), read, wants)?;
+        let upto = facts.upto;
+        let outcome = turn_told(alloc, book, &mut seat.held.search, MOST_UNITS, facts)?;
+        if !is_whole(&outcome) {
+            seat.count_whole(made, read);
+            put_down(alloc, book, seat, upto, outcome)?;
+            return Ok(());
+        }
+        book.commit_next()?;
+        read = upto;
+        made += 1;
     }
-    book.commit_next()?;
-    let turned = Turned {
-        spent: MOST_UNITS,
-        upto,
-        stopped: false,
-        kept: End::More,
-    };
-    seat.count_turn(turned, false);
-    Ok(may_follow(true, false, false, seat.held.turns))
+    seat.count_whole(made, read);
+    Ok(())
 }
