@@ -2,15 +2,15 @@
 # How fast sessions run, in seconds of processor time, the kernel's counted in. First the median of nine runs of the proved
 # program on a script of 1,000 questions about 33 groups with 500 units each; then on one question with 100,000,000 units, in
 # turns of 1,024 units; then on a script of the greatest size, which is only read and resolved. Last, in four groups, one
-# question with as many units, in a session and by the search called alone in the same turns: the least and the median of
-# RUNS runs each (200), by turns on one processor (bench/least.py), with the units a second. TURNS sets another number of turns.
-# The small program that calls the search is written into a copy of the repository, proved and built there, which takes a few
-# minutes. Run `rt ci` first; it leaves the program at crates/magnus/out/magnus.
+# question with as many units, in a session and by the search called alone in the same turns, by PAIRS pairs of runs (200, see
+# bench/pairs.py): the units a second of the least of each, and how much longer a session takes. TURNS sets another number of
+# turns. The small program that calls the search is written into a copy of the repository, proved and built there, which takes a
+# few minutes. Run `rt ci` first; it leaves the program at crates/magnus/out/magnus.
 cd "$(dirname "$0")/.." || exit 1
 program=crates/magnus/out/magnus
 units=${UNITS:-100000000}
 turns=${TURNS:-97657}
-runs=${RUNS:-200}
+pairs=${PAIRS:-200}
 [ -x "$program" ] || { echo "no $program: run 'rt ci' or 'rt run' in crates/magnus first" >&2; exit 1; }
 work=$(mktemp -d)
 trap 'rm -rf "$work"' EXIT
@@ -219,11 +219,11 @@ END
 # The turns about a group, which has this number in the small program.
 compare() {
   one "$2" "$((turns * 1024))" > "$work/turns"
-  python3 bench/least.py "$runs" "$work/turns" "$program" run -- /dev/null "$crate/out/bare" "$turns" "$1" > "$work/taken" || exit 1
-  awk -v turns="$turns" -v group="$2" '{ least[NR] = $1; median[NR] = $2 } END {
+  python3 bench/pairs.py "$pairs" "$work/turns" "$program" run -- /dev/null "$crate/out/bare" "$turns" "$1" > "$work/taken" || exit 1
+  awk -v turns="$turns" -v group="$2" '{
     units = turns * 1024 / 1e9
-    printf "%d turns in < %s >, thousand million units a second: %.2f in a session, %.2f alone; ", turns, group, units / least[1], units / least[2]
-    printf "a session takes %.1f %% longer (by the medians %.1f %%)\n", 100 * (least[1] / least[2] - 1), 100 * (median[1] / median[2] - 1)
+    printf "%d turns in < %s >, thousand million units a second: %.2f in a session, %.2f alone; ", turns, group, units / $1, units / $2
+    printf "a session takes %.1f %% longer (median of the pairs; quartiles %.1f and %.1f)\n", 100 * ($4 - 1), 100 * ($3 - 1), 100 * ($5 - 1)
   }' "$work/taken"
 }
 
