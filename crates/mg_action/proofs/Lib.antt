@@ -1,3 +1,3 @@
-pub mod Permutations
-pub mod Words
-pub mod Rows
+mod Permutations
+mod Words
+mod Rows

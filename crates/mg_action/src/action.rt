@@ -35,7 +35,8 @@ impl Model for Action {
     ghost view = { λ a. record { degree = a.degree; images = first_chunks a.degree a.generators a.images.items } };
 
     ghost invariant = { λ a. IsKept (record { degree = a.degree; images = first_chunks a.degree a.generators a.images.items })
-        a.generators a.images.items a.inverses.items (vec_capacity a.images) (vec_capacity a.inverses) };
+        a.generators a.images.items a.inverses.items (vec_capacity a.images)
+        (vec_capacity a.inverses) };
 }
 
 impl Action {

@@ -36,7 +36,8 @@ pub fn refutes(ask: &Ask, goal: u32, action: &Action) -> bool
 fn all_fix_each_point(words: &[Word], action: &Action) -> bool
     requires { AllByRecursion (IsOver (length action.now.images)) (letters_of words.now) }
     ensures { IsTrue result ↔
-        AllByRecursion (λ w. perm_of_word action.now w ≡ identity action.now.degree) (letters_of words.now) }
+        AllByRecursion (λ w. perm_of_word action.now w ≡ identity action.now.degree)
+        (letters_of words.now) }
 {
     for word in words {
         if !fixes_each_point(word.letters(), action) {
@@ -63,7 +64,8 @@ fn fixes_each_point(word: &[Letter], action: &Action) -> bool
 fn all_fix_zero(words: &[Word], action: &Action) -> bool
     requires points { 1 ≤ action.now.degree }
     requires over { AllByRecursion (IsOver (length action.now.images)) (letters_of words.now) }
-    ensures { IsTrue result ↔ AllByRecursion (λ w. image_of_zero action.now w ≡ 0) (letters_of words.now) }
+    ensures { IsTrue result ↔
+        AllByRecursion (λ w. image_of_zero action.now w ≡ 0) (letters_of words.now) }
 {
     for word in words {
         if action.image(word.letters(), 0) != 0 {

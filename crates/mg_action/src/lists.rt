@@ -13,7 +13,8 @@ use std::alloc::{AllocError, Global};
 /// Whether these are the image lists of some permutations of so many points, one after another.
 pub fn are_images(alloc: Global, degree: u32, images: &[u32]) -> Result<bool, NoMemory>
     requires { 1 ≤ degree }
-    ensures { IfOk result (λ whole. IsTrue whole ↔ ((perms : List (List ℕ)) × AreImages degree perms images.now)) }
+    ensures { IfOk result (λ whole. IsTrue whole ↔ ((perms : List (List ℕ)) ×
+        AreImages degree perms images.now)) }
 {
     if images.len() % degree as usize != 0 {
         return Ok(false);

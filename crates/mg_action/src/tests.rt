@@ -155,10 +155,3 @@ fn images_are_whole_permutations(rt: HostRuntime) -> Result<(), Fail> {
     assert!(rt; !are_images(alloc, 2, &[0, 1, 0])?);
     Ok(())
 }
-
-#[test]
-fn laws() {
-    same_words_act_alike();
-    refuted_goals_do_not_lie();
-    actions_and_numbers_correspond();
-}

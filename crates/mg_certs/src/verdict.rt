@@ -19,7 +19,8 @@ pub enum Yes {
 impl Yes {
     /// Whether the certificate is accepted for the Ask.
     pub fn is_accepted(&self, alloc: Global, ask: &Ask) -> Result<bool, NoMemory>
-        ensures { IfOk result (λ accepted. IsTrue accepted ↔ Accepted ask.now (affirmed (affirmation_of self.now))) }
+        ensures { IfOk result (λ accepted. IsTrue accepted ↔
+            Accepted ask.now (affirmed (affirmation_of self.now))) }
     {
         match self {
             Yes::Derivation(text) => {

@@ -1,5 +1,5 @@
-//! Words and verdicts as text. A text is pieces, joined by single spaces. Each call that pushes appends its
-//! text to the bytes handed in; where memory is wanting, a part of it may be there.
+//! Words and verdicts as text. A text is pieces, joined by single spaces. Each call that pushes
+//! appends its text to the bytes handed in; where memory is wanting, these stay as they were.
 #![tactic(auto)]
 
 mod pieces;

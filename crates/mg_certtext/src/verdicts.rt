@@ -28,7 +28,8 @@ fn push_sign(
     after: &[u8],
     inverse: bool,
 ) -> Result<(), NoMemory>
-    ensures { OnOk result (out.new.items ≡ out.old.items ++ spaced ((before.now ++ decimal place ++ after.now ++ sign inverse) ∷ [])) }
+    ensures { OnOk result (out.new.items ≡ out.old.items
+        ++ spaced ((before.now ++ decimal place ++ after.now ++ sign inverse) ∷ [])) }
 {
     push_piece(out, before)?;
     push_decimal(alloc, out, place as u128)?;
@@ -43,7 +44,8 @@ fn push_symbol(
     names: &[List<u8>],
     symbol: Symbol,
 ) -> Result<(), NoMemory>
-    ensures { OnOk result (out.new.items ≡ out.old.items ++ spaced (symbol_piece names.now symbol ∷ [])) }
+    ensures { OnOk result (out.new.items
+        ≡ out.old.items ++ spaced (symbol_piece names.now symbol ∷ [])) }
 {
     match symbol {
         Symbol::Letter(letter) => push_run(alloc, out, names, letter, 1),
@@ -59,7 +61,8 @@ fn print_derivation(
     text: &Derivation,
     names: &[List<u8>],
 ) -> Result<Vec<u8>, NoMemory>
-    ensures { IfOk result (λ printed. printed.items ≡ verdict_text names.now (affirmed (derivation text.now.symbols))) }
+    ensures { IfOk result (λ printed. printed.items
+        ≡ verdict_text names.now (affirmed (derivation text.now.symbols))) }
 {
     let mut out = Vec::new(alloc);
     push_bytes(&mut out, b"yes derivation")?;
@@ -71,7 +74,8 @@ fn print_derivation(
 
 /// The text of a verdict, where the generators have these names in order. It has no end of a line.
 pub fn print(alloc: Global, verdict: &Verdict, names: &[List<u8>]) -> Result<Vec<u8>, NoMemory>
-    ensures { IfOk result (λ printed. printed.items ≡ verdict_text names.now (verdict_of verdict.now)) }
+    ensures { IfOk result (λ printed. printed.items
+        ≡ verdict_text names.now (verdict_of verdict.now)) }
 {
     match verdict {
         Verdict::Yes(Yes::Derivation(text)) => print_derivation(alloc, text, names),

@@ -1,12 +1,11 @@
 //! The pieces of words and of lists of words.
-ghost use Rattle.std.specs.Prelude.{◌≡◌, ◌-◌, [], ◌∷◌, ◌++◌, OnOk, map, codes};
-ghost use Rattle.std.specs.List.{flat_map};
+ghost use Rattle.std.specs.Prelude.{◌≡◌, [], ◌∷◌, ◌++◌, OnOk, OnErr, map, codes};
 ghost use Rattle.std.specs.Ordering.{int_eq};
 ghost use Rattle.mg_words.specs.Word.{letters_of};
-ghost use Rattle.mg_certtext.specs.Pieces.{spaced};
+ghost use Rattle.mg_certtext.specs.Pieces.{spaced, more_listed, Extends};
 ghost use Rattle.mg_certtext.specs.Words.{name_of, run_piece, runs_of, word_pieces, words_pieces, names_pieces};
 
-use crate::pieces::{push_bytes, push_decimal, push_piece};
+use crate::pieces::{all_or_nothing, push_bytes, push_decimal, push_piece};
 use mg_lists::{List, NoMemory};
 use mg_words::{Letter, Word};
 use std::alloc::Global;
@@ -29,7 +28,9 @@ pub(crate) fn push_run(
     letter: Letter,
     count: u64,
 ) -> Result<(), NoMemory>
-    ensures { OnOk result (out.new.items ≡ out.old.items ++ spaced (run_piece names.now (letter, count) ∷ [])) }
+    ensures pushed { OnOk result (out.new.items
+        ≡ out.old.items ++ spaced (run_piece names.now (letter, count) ∷ [])) }
+    ensures part { OnErr result (Extends out.old.items out.new.items) }
 {
     push_piece(out, generator_name(names, letter))?;
     if letter.inverse {
@@ -56,7 +57,9 @@ fn push_runs(
     first: Letter,
     rest: &[Letter],
 ) -> Result<(), NoMemory>
-    ensures { OnOk result (out.new.items ≡ out.old.items ++ spaced (map (run_piece names.now) (runs_of (first ∷ rest.now)))) }
+    ensures pushed { OnOk result (out.new.items
+        ≡ out.old.items ++ spaced (map (run_piece names.now) (runs_of (first ∷ rest.now)))) }
+    ensures part { OnErr result (Extends out.old.items out.new.items) }
 {
     let mut run = first;
     let mut count = 1;
@@ -80,7 +83,9 @@ fn push_word(
     names: &[List<u8>],
     word: &Word,
 ) -> Result<(), NoMemory>
-    ensures { OnOk result (out.new.items ≡ out.old.items ++ spaced (word_pieces names.now word.now.letters)) }
+    ensures pushed { OnOk result (out.new.items
+        ≡ out.old.items ++ spaced (word_pieces names.now word.now.letters)) }
+    ensures part { OnErr result (Extends out.old.items out.new.items) }
 {
     match word.letters() {
         [] => push_piece(out, b"1"),
@@ -89,7 +94,8 @@ fn push_word(
 }
 
 fn push_comma(out: &mut Vec<u8>) -> Result<(), NoMemory>
-    ensures { OnOk result (out.new.items ≡ out.old.items ++ spaced (codes "," ∷ [])) }
+    ensures pushed { OnOk result (out.new.items ≡ out.old.items ++ spaced (codes "," ∷ [])) }
+    ensures kept { OnErr result (out.new.items ≡ out.old.items) }
 {
     push_piece(out, b",")
 }
@@ -101,7 +107,25 @@ pub fn push_words(
     names: &[List<u8>],
     words: &[Word],
 ) -> Result<(), NoMemory>
-    ensures { OnOk result (out.new.items ≡ out.old.items ++ spaced (words_pieces names.now (letters_of words.now))) }
+    ensures pushed { OnOk result (out.new.items
+        ≡ out.old.items ++ spaced (words_pieces names.now (letters_of words.now))) }
+    ensures kept { OnErr result (out.new.items ≡ out.old.items) }
+{
+    let length = out.len();
+    let pushed = push_listed_words(alloc, out, names, words);
+    all_or_nothing(out, length, pushed)
+}
+
+/// Pushes a list of words; where memory is wanting, a part of it may be there.
+fn push_listed_words(
+    alloc: Global,
+    out: &mut Vec<u8>,
+    names: &[List<u8>],
+    words: &[Word],
+) -> Result<(), NoMemory>
+    ensures pushed { OnOk result (out.new.items
+        ≡ out.old.items ++ spaced (words_pieces names.now (letters_of words.now))) }
+    ensures part { OnErr result (Extends out.old.items out.new.items) }
 {
     match words {
         [] => Ok(()),
@@ -119,7 +143,9 @@ fn push_more_words(
     names: &[List<u8>],
     words: &[Word],
 ) -> Result<(), NoMemory>
-    ensures { OnOk result (out.new.items ≡ out.old.items ++ spaced (flat_map (λ member. codes "," ∷ member) (map (word_pieces names.now) (letters_of words.now)))) }
+    ensures pushed { OnOk result (out.new.items ≡ out.old.items
+        ++ spaced (more_listed (map (word_pieces names.now) (letters_of words.now)))) }
+    ensures part { OnErr result (Extends out.old.items out.new.items) }
 {
     for word in words {
         push_comma(out)?;
@@ -130,7 +156,20 @@ fn push_more_words(
 
 /// Pushes a list of generators, each piece behind a space.
 pub fn push_names(out: &mut Vec<u8>, names: &[List<u8>]) -> Result<(), NoMemory>
-    ensures { OnOk result (out.new.items ≡ out.old.items ++ spaced (names_pieces names.now)) }
+    ensures pushed { OnOk result (out.new.items
+        ≡ out.old.items ++ spaced (names_pieces names.now)) }
+    ensures kept { OnErr result (out.new.items ≡ out.old.items) }
+{
+    let length = out.len();
+    let pushed = push_listed_names(out, names);
+    all_or_nothing(out, length, pushed)
+}
+
+/// Pushes a list of generators; where memory is wanting, a part of it may be there.
+fn push_listed_names(out: &mut Vec<u8>, names: &[List<u8>]) -> Result<(), NoMemory>
+    ensures pushed { OnOk result (out.new.items
+        ≡ out.old.items ++ spaced (names_pieces names.now)) }
+    ensures part { OnErr result (Extends out.old.items out.new.items) }
 {
     match names {
         [] => Ok(()),
@@ -143,7 +182,9 @@ pub fn push_names(out: &mut Vec<u8>, names: &[List<u8>]) -> Result<(), NoMemory>
 
 /// Pushes generators that stand behind others in a list.
 fn push_more_names(out: &mut Vec<u8>, names: &[List<u8>]) -> Result<(), NoMemory>
-    ensures { OnOk result (out.new.items ≡ out.old.items ++ spaced (flat_map (λ member. codes "," ∷ member) (map (λ name. name ∷ []) names.now))) }
+    ensures pushed { OnOk result (out.new.items
+        ≡ out.old.items ++ spaced (more_listed (map (λ name. name ∷ []) names.now))) }
+    ensures part { OnErr result (Extends out.old.items out.new.items) }
 {
     for name in names {
         push_comma(out)?;

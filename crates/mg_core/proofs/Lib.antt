@@ -1,8 +1,8 @@
-pub mod Books
-pub mod Firsts
-pub mod Gathers
+mod Books
+mod Firsts
+mod Gathers
 pub mod Hands
-pub mod Indexes
+mod Indexes
 pub mod Logs
 pub mod Scans
-pub mod Joined
+mod Joined

@@ -22,6 +22,11 @@ pub record IsBook {R K : Type 0} (valid : R → Type 0) (settles : R → Option 
 abbrev pub bare : {R : Type 0} → Entry R → Entry R
 bare entry = record entry { dropped = true; records = [] }
 
+-- the entry as a commit leaves it in the log
+abbrev pub entry_put : {R : Type 0} → Entry R → Committed → Entry R
+entry_put entry (Kept place) = entry
+entry_put entry (Dropped place by) = bare entry
+
 -- what a commit for a key answers, from the log before to the log after: the entry is dropped, for the reason
 -- of a verdict that is there, or it is kept, and then no verdict is there
 abbrev pub Commits : {R K : Type 0} → (R → Option K) → K → List (Entry R) → Entry R → List (Entry R) → Committed → Type 0

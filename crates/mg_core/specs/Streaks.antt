@@ -1,5 +1,5 @@
 -- Turns that stand alike right behind one another, which a book keeps as one streak.
-use Rattle.std.specs.Prelude.{◌≡◌, ℕ, zero, suc, ◌+◌, ◌<◌, ◌≤◌, ◌^◌, Bool, true, List, [], ◌∷◌, ◌++◌, length, take, drop, ◌⊎◌}
+use Rattle.std.specs.Prelude.{◌≡◌, ℕ, zero, suc, ◌+◌, ◌<◌, ◌≤◌, ◌^◌, Bool, true, false, List, [], ◌∷◌, ◌++◌, length, take, drop, ◌⊎◌}
 use Rattle.mg_core.specs.declared.entries.Entry.{Entry}
 use Rattle.mg_core.specs.declared.entries.EntryView.{EntryView}
 use Rattle.mg_core.specs.declared.streaks.Common.{Common}
@@ -52,6 +52,13 @@ pub record GoesLonger (old new : List Streak) : Type 0 where
   pub old_is : old ≡ before ++ last ∷ []
   pub next : last.turn + last.more + 1 < 2 ^ 64
   pub new_is : new ≡ before ++ longer last ∷ []
+
+-- the log ends with this entry, which was kept and found nothing
+pub record IsLastEmpty {R : Type 0} (log : List (Entry R)) (last : Entry R) : Type 0 where
+  pub before : List (Entry R)
+  pub log_is : log ≡ before ++ last ∷ []
+  pub kept : last.dropped ≡ false
+  pub nothing : last.records ≡ []
 
 -- the entry of one turn more like that of an entry, which finds nothing
 abbrev pub next_of : {R : Type 0} → Entry R → Entry R

@@ -4,7 +4,8 @@ ghost use Rattle.std.specs.List.{AllByRecursion};
 ghost use Rattle.mg_core.specs.Log.{facts_of, IsFact, VerdictIn, Settled, Handed};
 ghost use Rattle.mg_core.specs.Book.{Commits};
 ghost use Rattle.mg_core.specs.declared.entries.Entry.{Entry as EntryOf};
-ghost use Rattle.mg_core.specs.Streaks.{IsNumbered, alone, next_of};
+ghost use Rattle.mg_core.specs.declared.entries.Committed.TheVariants.{Kept};
+ghost use Rattle.mg_core.specs.Streaks.{IsNumbered, IsLastEmpty, alone, next_of};
 
 use crate::entries::{Committed, Entry, Facts};
 use crate::index::{place_among, place_for, put_place};
@@ -77,7 +78,8 @@ impl<R: Record> Book<R> {
     pub fn commit(&mut self, key: &R::Key, entry: Entry<R>) -> Result<Committed, NoMemory>
         requires kept { entry.dropped ≡ false }
         requires few { length entry.records ≤ 2 }
-        requires of_key { AllByRecursion (λ r. IfSome (R.settled r) (λ k. k ≡ key.now)) entry.records }
+        requires of_key { AllByRecursion (λ r. IfSome (R.settled r)
+            (λ k. k ≡ key.now)) entry.records }
         ensures ok { IfOk result (Commits R.settled key.now self.old entry self.new) }
         ensures err { OnErr result (self.new ≡ self.old) }
     {
@@ -100,11 +102,14 @@ impl<R: Record> Book<R> {
         }
     }
 
-    /// Appends the entry of one turn more like that of the last entry, which finds nothing: of its search, with its
-    /// units, kept or dropped as it was. Where there is no memory the log stays as it was.
-    pub fn commit_next(&mut self) -> Result<(), NoMemory>
-        requires some { (before : List (EntryOf R)) × (last : EntryOf R) × (self.old ≡ before ++ last ∷ []) }
-        ensures ok { OnOk result ((before : List (EntryOf R)) (last : EntryOf R) → self.old ≡ before ++ last ∷ [] → self.new ≡ self.old ++ next_of last ∷ []) }
+    /// Appends what one turn more of the search of the last entry put out, where it found nothing: the entry next to the
+    /// last one, which was kept and found nothing either. It is for this key, which the log has no verdict for. Where
+    /// there is no memory the log stays as it was.
+    pub fn commit_next(&mut self, _key: &R::Key) -> Result<(), NoMemory>
+        requires last { (last : EntryOf R) × IsLastEmpty self.old last }
+        requires unsettled { Settled R.settled self.old _key.now → ⊥ }
+        ensures ok { OnOk result ((last : EntryOf R) → IsLastEmpty self.old last →
+            Commits R.settled _key.now self.old (next_of last) self.new (Kept (length self.new))) }
         ensures err { OnErr result (self.new ≡ self.old) }
     {
         let Some(count) = self.count.checked_add(1) else {
@@ -133,6 +138,13 @@ impl<R: Record> Book<R> {
         ensures some { IfSome result (λ r. IsFact self.now n r.now) }
     {
         self.records().get(n as usize - 1)
+    }
+
+    /// How many entries there are.
+    pub fn count(&self) -> u64
+        ensures { result ≡ length self.now }
+    {
+        self.count
     }
 
     /// How many facts there are. Each of them is valid.
@@ -173,7 +185,8 @@ impl<R: Record> Book<R> {
 
     /// Appends an entry without its records, dropped or kept, and answers its place from 1.
     fn put_empty(&mut self, entry: &Entry<R>, dropped: bool) -> Result<u64, NoMemory>
-        ensures ok { OnOk result (self.new ≡ self.old ++ record (entry.now) { dropped = dropped; records = [] } ∷ []) }
+        ensures ok { OnOk result (self.new ≡ self.old ++
+            record (entry.now) { dropped = dropped; records = [] } ∷ []) }
         ensures place { IfOk result (λ place. place ≡ length self.new) }
         ensures err { OnErr result (self.new ≡ self.old) }
     {
@@ -191,7 +204,8 @@ impl<R: Record> Book<R> {
     fn put_found(&mut self, key: &R::Key, entry: Entry<R>) -> Result<u64, NoMemory>
         requires kept { entry.dropped ≡ false }
         requires few { length entry.records ≤ 2 }
-        requires of_key { AllByRecursion (λ r. IfSome (R.settled r) (λ k. k ≡ key.now)) entry.records }
+        requires of_key { AllByRecursion (λ r. IfSome (R.settled r)
+            (λ k. k ≡ key.now)) entry.records }
         requires unsettled { Settled R.settled self.old key.now → ⊥ }
         ensures ok { OnOk result (self.new ≡ self.old ++ entry ∷ []) }
         ensures place { IfOk result (λ place. place ≡ length self.new) }

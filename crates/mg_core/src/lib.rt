@@ -12,7 +12,7 @@ mod streaks;
 
 pub use book::Book;
 pub use entries::{Committed, Entry, EntryView, Facts, Records};
-pub use laws::{facts_of_appended, legal_appended};
+pub use laws::{commits_keep_a_log_legal, facts_of_appended, legal_appended};
 pub use mg_lists::NoMemory;
 pub use record::{Record, settles_key};
 pub use streaks::Entries;

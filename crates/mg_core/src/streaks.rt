@@ -105,7 +105,8 @@ pub(crate) fn put_turn(streaks: &mut Vec<Streak>, turn: Streak) -> Result<(), No
 
 /// One turn more of the last of these streaks, which finds nothing.
 pub(crate) fn go_on(streaks: &mut Vec<Streak>) -> Result<(), NoMemory>
-    requires some { (before : List StreakOf) × (last : StreakOf) × (streaks.old.items ≡ before ++ last ∷ []) }
+    requires some { (before : List StreakOf) × (last : StreakOf) ×
+        (streaks.old.items ≡ before ++ last ∷ []) }
     requires numbered { AllByRecursion IsNumbered streaks.old.items }
     ensures ok { OnOk result (GoesLonger streaks.old.items streaks.new.items) }
     ensures err { OnErr result (streaks.new.items ≡ streaks.old.items) }
@@ -138,9 +139,11 @@ impl<'a, R> Model for Entries<'a, R> {
 
     ghost Value = { List (EntryOf R) };
 
-    ghost view = { λ a. turns_from a.last.common (a.last.turn + 1) a.last.more ++ log_of a.facts.now a.streaks.now };
+    ghost view = { λ a. turns_from a.last.common (a.last.turn + 1) a.last.more ++
+        log_of a.facts.now a.streaks.now };
 
-    ghost invariant = { λ a. IsNumbered a.last × Found a.facts.now a.streaks.now × AllByRecursion IsNumbered a.streaks.now };
+    ghost invariant = { λ a. IsNumbered a.last × Found a.facts.now a.streaks.now ×
+        AllByRecursion IsNumbered a.streaks.now };
 }
 
 impl<'a, R> Entries<'a, R> {

@@ -1,7 +1,10 @@
 //! A log over marks.
-ghost use Rattle.std.specs.Prelude.{◌≡◌, Option, Some, None, true, false, refl, if◌then◌else◌, IfOk, length, [], ◌∷◌};
+ghost use Rattle.std.specs.Prelude.{◌≡◌, Option, Some, None, true, false, refl, if◌then◌else◌, IfOk, IsTrue, length, [], ◌∷◌};
 ghost use Rattle.std.proofs.Common.{rules};
 ghost use Rattle.std.proofs.lemmas.Map.Lookups.{exact_unsigned};
+ghost use Rattle.mg_core.specs.declared.entries.Entry.{Entry as EntryOf};
+ghost use Rattle.mg_core.specs.declared.tests.Mark.{Mark as MarkOf};
+ghost use Rattle.mg_core.specs.Streaks.{IsLastEmpty};
 
 use super::*;
 use std::alloc::Global;
@@ -57,7 +60,8 @@ impl Record for Mark {
 
 /// The entry of a turn with one record.
 fn entry(alloc: Global, turn: u64, settling: bool, number: u32) -> Result<Entry<Mark>, NoMemory>
-    ensures { IfOk result (λ e. (e.dropped ≡ false) × (length e.records ≡ 1) × (e.records ≡ (record { settling = settling; number = number }) ∷ [])) }
+    ensures { IfOk result (λ e. (e.dropped ≡ false) × (length e.records ≡ 1) ×
+        (e.records ≡ (record { settling = settling; number = number }) ∷ [])) }
 {
     let mut records = Records::new(alloc);
     records.push(Mark { settling, number })?;
@@ -73,7 +77,8 @@ fn entry(alloc: Global, turn: u64, settling: bool, number: u32) -> Result<Entry<
 
 /// The entry of a turn that found a model of 9 and then settled 7.
 fn pair_of_marks(alloc: Global) -> Result<Entry<Mark>, NoMemory>
-    ensures { IfOk result (λ e. (e.dropped ≡ false) × (e.records ≡ (record { settling = false; number = 9 }) ∷ (record { settling = true; number = 7 }) ∷ [])) }
+    ensures { IfOk result (λ e. (e.dropped ≡ false) ×
+        (e.records ≡ (record { settling = false; number = 9 }) ∷ (record { settling = true; number = 7 }) ∷ [])) }
 {
     let mut pair = entry(alloc, 0, false, 9)?;
     pair.records.push(Mark {
@@ -188,16 +193,36 @@ fn lends_the_entries_in_order(rt: HostRuntime) -> Result<(), Fail> {
     Ok(())
 }
 
+/// Appends the next entry, where the key 7 isn't settled.
+fn go_on(book: &mut Book<Mark>) -> Result<bool, NoMemory>
+    requires { (last : EntryOf MarkOf) × IsLastEmpty book.old last }
+    ensures { IfOk result (λ went. IsTrue went →
+        (last : EntryOf MarkOf) × IsLastEmpty book.new last) }
+{
+    if book.verdict(&7).is_some() {
+        return Ok(false);
+    }
+    book.commit_next(&7)?;
+    Ok(true)
+}
+
+/// Two turns more, behind one that found a model and one that found nothing.
+fn two_more(alloc: Global, book: &mut Book<Mark>) -> Result<bool, NoMemory> {
+    book.commit(&7, entry(alloc, 0, false, 9)?)?;
+    match book.commit(&7, empty(alloc, 1, 1, 1))? {
+        Committed::Kept { .. } => Ok(go_on(book)? && go_on(book)?),
+        Committed::Dropped { .. } => Ok(false),
+    }
+}
+
 #[test]
 fn appends_next_entries(rt: HostRuntime) -> Result<(), Fail> {
     let alloc = rt.alloc();
     let mut book: Book<Mark> = Book::new(alloc);
-    book.commit(&7, entry(alloc, 0, false, 9)?)?;
-    book.commit_next()?;
-    book.commit_next()?;
+    assert!(rt; two_more(alloc, &mut book)?);
     assert_eq!(rt;
-        book.commit(&7, empty(alloc, 1, 3, 1))?,
-        Committed::Kept { place: 4 }
+        book.commit(&7, empty(alloc, 1, 4, 1))?,
+        Committed::Kept { place: 5 }
     );
     let mut entries = book.entries();
     for seen in [
@@ -205,6 +230,7 @@ fn appends_next_entries(rt: HostRuntime) -> Result<(), Fail> {
         (1, 1, 1, false, 0),
         (1, 2, 1, false, 0),
         (1, 3, 1, false, 0),
+        (1, 4, 1, false, 0),
     ] {
         assert_eq!(rt; next(&mut entries), Some(seen));
     }

@@ -33,7 +33,8 @@ pub fn refutes(ask: &Ask, goal: u32, map: &Residues) -> bool
 // Whether every word sums to 0.
 fn all_vanish(words: &[Word], map: &Residues) -> bool
     requires { AllByRecursion (IsOver (length map.now.residues)) (letters_of words.now) }
-    ensures { IsTrue result ↔ AllByRecursion (λ w. residue_of_word map.now w ≡ 0) (letters_of words.now) }
+    ensures { IsTrue result ↔
+        AllByRecursion (λ w. residue_of_word map.now w ≡ 0) (letters_of words.now) }
 {
     for word in words {
         if map.residue(word.letters()) != 0 {

@@ -27,7 +27,8 @@ impl Model for Residues {
 
     ghost view = { λ r. record { modulus = r.modulus; residues = r.images.items } };
 
-    ghost invariant = { λ r. IsResidueTuple (length r.images.items) (record { modulus = r.modulus; residues = r.images.items }) };
+    ghost invariant = { λ r. IsResidueTuple (length r.images.items)
+        (record { modulus = r.modulus; residues = r.images.items }) };
 }
 
 impl Residues {

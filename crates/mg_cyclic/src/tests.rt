@@ -139,10 +139,3 @@ fn a_group_without_generators(rt: HostRuntime) -> Result<(), Fail> {
     assert!(rt; !refutes(&ask, 0, &map));
     Ok(())
 }
-
-#[test]
-fn laws() {
-    same_words_sum_alike();
-    refuted_goals_do_not_lie();
-    maps_and_numbers_correspond();
-}

@@ -1,9 +1,10 @@
 -- Reading a text once, symbol by symbol, with two reduced words: that this accepts exactly the accepted texts.
-use Rattle.std.proofs.Common.{◌≡◌, ℕ, zero, suc, ◌-◌, ◌<◌, Bool, true, false, ℤ, List, [], ◌∷◌, ◌++◌, length, get_or, drop, refl, sym, ap, subst, ◌∙◌, append_assoc, arith}
+use Rattle.std.proofs.Common.{◌≡◌, ℕ, ◌-◌, ◌<◌, Bool, true, false, ℤ, List, [], ◌∷◌, ◌++◌, length, drop, refl, sym, ap, subst, ◌∙◌, append_assoc, arith}
 use Rattle.std.specs.List.{AllByRecursion, flat_map}
 use Rattle.std.proofs.lemmas.List.{append-nil}
 use Rattle.mg_words.specs.Word.{IsOver}
-use Rattle.mg_words.proofs.Free.{free_form, free_form-left, free_form-free_form, free_form-reduced, same_form, freely_from_form, IsOver-free_form}
+use Rattle.mg_words.specs.Reduction.{free_form}
+use Rattle.mg_words.proofs.Free.{free_form-left, free_form-free_form, free_form-reduced, same_form, freely_from_form, IsOver-free_form}
 use Rattle.mg_words.proofs.Chains.{IsOver-append, IsOver-inv}
 use Rattle.mg_present.specs.Ask.{Inquiry, IsAsked, IsReducedOver}
 use Rattle.mg_present.specs.Presentation.{IsRelator}
@@ -13,6 +14,7 @@ use Rattle.mg_derive.specs.declared.symbol.Symbol.TheVariants.{Letter, Relator, 
 use Rattle.mg_derive.specs.Symbols.{IsSymbolOf, word_of, letter_of, written_out, letters_alone}
 use Rattle.mg_derive.specs.Reading.{Runs}
 use Rattle.mg_derive.specs.Acceptance.{IsOfGroup, IsMember, IsInOrder, Vanishes, Write, IsAccepted}
+use Rattle.mg_derive.proofs.Lists.{all_append, all_left, all_right, all_at}
 
 -- letters and relator signs, and then member signs alone, where the part may have begun before
 abbrev pub InOrder : Bool → List Symbol → Type 0
@@ -57,25 +59,6 @@ in_order_to (Relator place inverse ∷ part) h = in_order_cons (Relator place in
 in_order_to (Member place inverse ∷ part) h =
     record { front = []; back = Member place inverse ∷ part; split = refl; of_group = tt; members = (tt, members_alone part h) }
 in_order_to (Cut ∷ part) h = absurd h
-
--- ---- lists
-
-pub all_append : {X : Type 0} (P : X → Type 0) (xs ys : List X) → AllByRecursion P xs → AllByRecursion P ys → AllByRecursion P (xs ++ ys)
-all_append P [] ys h k = k
-all_append P (x ∷ xs) ys h k = (h.0, all_append P xs ys h.1 k)
-
-pub all_left : {X : Type 0} (P : X → Type 0) (xs ys : List X) → AllByRecursion P (xs ++ ys) → AllByRecursion P xs
-all_left P [] ys h = tt
-all_left P (x ∷ xs) ys h = (h.0, all_left P xs ys h.1)
-
-pub all_right : {X : Type 0} (P : X → Type 0) (xs ys : List X) → AllByRecursion P (xs ++ ys) → AllByRecursion P ys
-all_right P [] ys h = h
-all_right P (x ∷ xs) ys h = all_right P xs ys h.1
-
-pub all_at : {X : Type 0} (P : X → Type 0) (xs : List X) (i : ℕ) (d : X) → AllByRecursion P xs → i < length xs → P (get_or xs i d)
-all_at P [] i d h l = absurd (omega arith)
-all_at P (x ∷ xs) zero d h l = h.0
-all_at P (x ∷ xs) (suc i) d h l = all_at P xs i d h.1 (omega arith)
 
 -- ---- words of symbols are over the generators
 

@@ -14,7 +14,8 @@ use Rattle.mg_derive.specs.Symbols.{IsSymbolOf, digit_of, symbol_count}
 use Rattle.mg_derive.specs.Acceptance.{IsNumbered, IsAccepted, AcceptedAt}
 use Rattle.mg_derive.specs.Walk.{NoneFollow, IsShort}
 use Rattle.mg_derive.proofs.Numbers.{digits_text, spelled, numbered_one}
-use Rattle.mg_derive.proofs.Parts.{all_append, runs_from_accepted}
+use Rattle.mg_derive.proofs.Lists.{all_append}
+use Rattle.mg_derive.proofs.Parts.{runs_from_accepted}
 use Rattle.mg_derive.proofs.Ends.{accepted_text, none_in_base_one}
 
 -- the value of the first text that begins with these digits and this one

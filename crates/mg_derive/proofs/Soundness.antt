@@ -16,7 +16,7 @@ use Rattle.mg_derive.specs.declared.symbol.Symbol.{Symbol}
 use Rattle.mg_derive.specs.declared.symbol.Symbol.TheVariants.{Letter, Relator, Member, Cut}
 use Rattle.mg_derive.specs.Symbols.{IsPlaceIn, IsSymbolOf, word_of, letter_of, written_out, letters_alone}
 use Rattle.mg_derive.specs.Acceptance.{IsOfGroup, IsMember, IsInOrder, Vanishes, Write, IsAccepted}
-use Rattle.mg_derive.proofs.Parts.{all_left, all_right}
+use Rattle.mg_derive.proofs.Lists.{all_left, all_right}
 
 -- the word of a relator sign is the same as the empty word
 relator_vanishes : (m : ℕ) (rs : List (List ℤ)) (place : ℕ) (inverse : Bool) → IsPlaceIn rs place → Same m rs (signed inverse (slice_index_or rs (place - 1) [])) []

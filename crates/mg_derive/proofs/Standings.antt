@@ -6,7 +6,8 @@ use Rattle.std.proofs.lemmas.List.{append-nil, length-append, length-drop, drop_
 use Rattle.std.proofs.lemmas.Option.{slice_get_within, get_or_from_slice_get, slice_get-get_or}
 use Rattle.std.proofs.Math.Nat.{mul-le-mul_left}
 use Rattle.mg_words.specs.Word.{IsReduced, inv}
-use Rattle.mg_words.proofs.Free.{free_form, free_form-reduced, IsReduced-free_form, IsReduced-nil, reduced_as_form}
+use Rattle.mg_words.specs.Reduction.{free_form}
+use Rattle.mg_words.proofs.Free.{free_form-reduced, IsReduced-free_form, IsReduced-nil, reduced_as_form}
 use Rattle.mg_words.proofs.Chains.{length-inv}
 use Rattle.mg_present.specs.Ask.{Inquiry, IsAsked}
 use Rattle.mg_derive.specs.declared.symbol.Symbol.{Symbol}
@@ -14,9 +15,11 @@ use Rattle.mg_derive.specs.declared.symbol.Symbol.TheVariants.{Letter, Relator, 
 use Rattle.mg_derive.specs.Symbols.{IsSymbolOf, word_of, letter_of, written_out, letters_alone}
 use Rattle.mg_derive.specs.Acceptance.{IsAccepted}
 use Rattle.mg_derive.specs.Reading.{Runs, Standing, at_first, is_member, goal_after, written_after, Takes, Leads, ends_in_member}
-use Rattle.mg_derive.specs.Room.{Room, HasRoom}
-use Rattle.mg_derive.specs.Walk.{NoneFollow, WritesAtMost, HasRoomForAll, IsShort, InReach}
-use Rattle.mg_derive.proofs.Parts.{all_append, accepted_from_runs, runs_from_accepted}
+use Rattle.mg_derive.specs.Room.{Room, HasRoom, HasRoomForLength}
+use Rattle.mg_derive.specs.declared.walk.TheConstants.{SEARCHED_SYMBOLS}
+use Rattle.mg_derive.specs.Walk.{NoneFollow, WritesAtMost, IsShort, InReach}
+use Rattle.mg_derive.proofs.Lists.{all_append}
+use Rattle.mg_derive.proofs.Parts.{accepted_from_runs, runs_from_accepted}
 use Rattle.mg_derive.proofs.Ends.{room_for_cuts}
 use Rattle.mg_derive.proofs.Steps.{product_length, undone}
 
@@ -147,18 +150,19 @@ pub shorter : (ask : Inquiry) (m n : ℕ) → n ≤ m → IsShort ask m → IsSh
 shorter ask m n h (inl few) = inl (omega arith)
 shorter ask m n h (inr one) = inr (one.0, omega (arith, one.1))
 
-room_for : (ask : Inquiry) (text : List Symbol) (room : Room) → HasRoomForAll ask room → AllByRecursion (IsSymbolOf ask) text → (n : ℕ) → length text ≤ n + 1 → IsShort ask n → HasRoom ask text room
-room_for ask text room h s n k (inl few) = h text s (omega arith)
+room_for : (ask : Inquiry) (text : List Symbol) (room : Room) → HasRoomForLength ask SEARCHED_SYMBOLS room → AllByRecursion (IsSymbolOf ask) text → (n : ℕ) → length text ≤ n + 1 → IsShort ask n → HasRoom ask text room
+room_for ask text room h s n k (inl few) = h text (omega arith)
 room_for ask text room h s n k (inr one) = room_for_cuts ask text room one.0 s
 
-pub room_kept : (ask : Inquiry) (l w l' w' : ℕ) → l ≤ l' → w ≤ w' → HasRoomForAll ask (record { letters = l; written = w }) → HasRoomForAll ask (record { letters = l'; written = w' })
-room_kept ask l w l' w' h k r text s n = let room = r text s n in record { letters = omega (arith, room.letters); written = omega (arith, room.written) }
+pub room_kept : (ask : Inquiry) (l w l' w' : ℕ) → l ≤ l' → w ≤ w' → HasRoomForLength ask SEARCHED_SYMBOLS (record { letters = l; written = w })
+    → HasRoomForLength ask SEARCHED_SYMBOLS (record { letters = l'; written = w' })
+room_kept ask l w l' w' h k r text n = let room = r text n in record { letters = omega (arith, room.letters); written = omega (arith, room.written) }
 
 pub record HasRoomAt (ask : Inquiry) (at : Standing) (symbol : Symbol) (room : Room) : Type 0 where
   pub letters : length at.letters + length (letter_of symbol) ≤ room.letters
   pub written : length at.written + length (word_of ask symbol) ≤ room.written
 
-pub room_for_more : (ask : Inquiry) (text : List Symbol) (symbol : Symbol) (at : Standing) (room : Room) → HasRoomForAll ask room → IsShort ask (length text) → Leads ask text at_first at → IsSymbolOf ask symbol → HasRoomAt ask at symbol room
+pub room_for_more : (ask : Inquiry) (text : List Symbol) (symbol : Symbol) (at : Standing) (room : Room) → HasRoomForLength ask SEARCHED_SYMBOLS room → IsShort ask (length text) → Leads ask text at_first at → IsSymbolOf ask symbol → HasRoomAt ask at symbol room
 room_for_more ask text symbol at room h short l s =
     let r = room_for ask (text ++ symbol ∷ []) room h (all_append (IsSymbolOf ask) text (symbol ∷ []) (symbols_read ask text at_first at l) (s, tt)) (length text) (omega (arith, length-append text (symbol ∷ []))) short in
     record {
@@ -166,7 +170,7 @@ room_for_more ask text symbol at room h short l s =
       written = omega (arith, r.written, written_push ask text symbol, written_read ask text at l);
     }
 
-pub room_for_goal : (ask : Inquiry) (text : List Symbol) (symbol : Symbol) (before after : Standing) (room : Room) → HasRoomForAll ask room → IsShort ask (length text) → Leads ask text at_first before → Takes ask symbol before after
+pub room_for_goal : (ask : Inquiry) (text : List Symbol) (symbol : Symbol) (before after : Standing) (room : Room) → HasRoomForLength ask SEARCHED_SYMBOLS room → IsShort ask (length text) → Leads ask text at_first before → Takes ask symbol before after
     → symbol ≡ Cut → length (get_or ask.goals before.goal []) ≤ room.written
 room_for_goal ask text symbol before after room h short l t e =
     let there : Takes ask Cut before after = subst (λ (s : Symbol). Takes ask s before after) e t in
@@ -343,12 +347,12 @@ one_less : (l more most : ℕ) → 1 ≤ more → l + (more - 1) * most + most �
 one_less l more most h = let e : more ≡ more - 1 + 1 = omega arith in omega (arith, ap (λ n. n * most) e)
 
 -- a sign writes at most so many letters
-by_sign : (ask : Inquiry) (most more to l : ℕ) (w : List ℤ) (symbol : Symbol) → WritesAtMost ask most → IsSymbolOf ask symbol → IsReduced w → 1 ≤ more
+by_sign : (ask : Inquiry) (most more to l : ℕ) (w : List ℤ) (symbol : Symbol) → WritesAtMost ask most → IsReduced w → 1 ≤ more
     → InReach (length (free_form (w ++ word_of ask symbol))) to l (more - 1) most → InReach (length w) to l more most
-by_sign ask most more to l w symbol writes s h k r =
+by_sign ask most more to l w symbol writes h k r =
     let u = word_of ask symbol in
     nearer (length w) (length (free_form (w ++ u))) to l l more (more - 1) most most
-    (omega (arith, back_length w u h, writes symbol s)) (omega (arith, product_length w u _ refl, writes symbol s)) (one_less l more most k) r
+    (omega (arith, back_length w u h, writes symbol)) (omega (arith, product_length w u _ refl, writes symbol)) (one_less l more most k) r
 
 pub in_reach : (ask : Inquiry) (most : ℕ) → 1 ≤ most → WritesAtMost ask most → (rest : List Symbol) (goal : List ℤ) (goals : List (List ℤ)) (m : Bool) (l w : List ℤ) (more : ℕ) → IsReduced l → IsReduced w
     → length rest ≡ length l + more + length (goal ∷ goals) → Runs ask rest (goal ∷ goals) m l w → InReach (length w) (length goal) (length l) more most
@@ -364,12 +368,12 @@ in_reach ask most some writes (Letter x ∷ rest) goal goals m l w more hl hw e 
 in_reach ask most some writes (Relator place inverse ∷ rest) goal goals m l w more hl hw e r =
     let u = word_of ask (Relator place inverse) in
     let wanted = letters_wanted ask rest (goal ∷ goals) false l (free_form (w ++ u)) (omega arith) hl r.2.1 in
-    by_sign ask most more (length goal) (length l) w (Relator place inverse) writes r.1 hw (omega arith)
+    by_sign ask most more (length goal) (length l) w (Relator place inverse) writes hw (omega arith)
     (in_reach ask most some writes rest goal goals false l (free_form (w ++ u)) (more - 1) hl (IsReduced-free_form (w ++ u)) (omega arith) r.2.1)
 in_reach ask most some writes (Member place inverse ∷ rest) goal goals m l w more hl hw e r =
     let u = word_of ask (Member place inverse) in
     let wanted = letters_wanted ask rest (goal ∷ goals) true l (free_form (w ++ u)) (omega arith) hl r.2 in
-    by_sign ask most more (length goal) (length l) w (Member place inverse) writes r.1 hw (omega arith)
+    by_sign ask most more (length goal) (length l) w (Member place inverse) writes hw (omega arith)
     (in_reach ask most some writes rest goal goals true l (free_form (w ++ u)) (more - 1) hl (IsReduced-free_form (w ++ u)) (omega arith) r.2)
 in_reach ask most some writes (Cut ∷ rest) goal goals m l w more hl hw e r =
     let same : goal ≡ w = cc (r.2.0) in

@@ -1,28 +1,27 @@
 -- The steps of the checker's loops.
-use Rattle.std.proofs.Common.{◌≡◌, ◌≢◌, ℕ, ◌+◌, ◌*◌, ◌<◌, ◌≤◌, Bool, true, false, ℤ, List, [], ◌∷◌, ◌++◌, length, get_or, take, drop, neg_ℤ, Some, refl, sym, ap, subst, ◌∙◌, append_assoc, arith, eq-eqb, reverse, Result, Ok, Err}
-use Rattle.std.specs.Prelude.{◌↔◌, ◌==◌, IsTrue, IfOk, slice_get, nat_abs, not}
-use Rattle.std.proofs.lemmas.Bool.{false≢true}
+use Rattle.std.proofs.Common.{◌≡◌, ◌≢◌, ℕ, ◌+◌, ◌*◌, ◌<◌, ◌≤◌, Bool, true, false, ℤ, List, [], ◌∷◌, ◌++◌, length, get_or, take, drop, neg_ℤ, ◌-◌, Some, refl, sym, ap, subst, ◌∙◌, append_assoc, arith, eq-eqb, reverse, Result, Ok, Err, inl, inr}
+use Rattle.std.specs.Prelude.{◌↔◌, ◌==◌, IsTrue, IfOk, EachIndex, slice_get, slice_index_or, nat_abs, not}
+use Rattle.std.proofs.lemmas.Bool.{false≢true, cases_lt}
 use Rattle.std.proofs.lemmas.Bool.Decides.{Decides-eqb}
 use Rattle.std.specs.Ordering.{is_eq}
 use Rattle.std.specs.declared.cmp.Ordering.{Ordering}
 use Rattle.std.specs.declared.cmp.Ordering.TheVariants.{Less, Equal, Greater}
-use Rattle.std.specs.List.{AllByRecursion}
-use Rattle.std.proofs.lemmas.List.{append-nil, length-append, length-take, length-map, length-drop, length-reverse, take_more, drop_more, drop_all, nil_from_length}
+use Rattle.std.proofs.lemmas.List.{append-nil, length-append, length-take, length-map, length-drop, length-reverse, take_more, drop_more, drop_all, get_or_past, nil_from_length}
 use Rattle.std.proofs.Math.Nat.{mul-le-mul_left}
 use Rattle.std.proofs.lemmas.Option.{slice_get_within, get_or_from_slice_get}
 use Rattle.mg_words.specs.Letter.{IsLetterOf, number_of}
 use Rattle.mg_words.specs.Word.{IsReduced, inv}
-use Rattle.mg_words.specs.Reduction.{PushesReduced}
-use Rattle.mg_words.proofs.Chains.{inv-inv}
-use Rattle.mg_words.proofs.Free.{free_form, free_form-left, free_form-right, free_form-times_inverse, free_form-reduced, free_form-length, pushed_onto, pushed_is}
+use Rattle.mg_words.specs.Reduction.{PushesReduced, free_form}
+use Rattle.mg_words.proofs.Chains.{inv-inv, length-inv}
+use Rattle.mg_words.proofs.Free.{free_form-left, free_form-right, free_form-times_inverse, free_form-reduced, free_form-length, pushed_onto, pushed_is}
 use Rattle.mg_present.specs.Ask.{Inquiry, IsAsked}
 use Rattle.mg_present.specs.Same.{signed}
 use Rattle.mg_derive.specs.declared.symbol.Symbol.{Symbol}
 use Rattle.mg_derive.specs.declared.symbol.Symbol.TheVariants.{Letter, Relator, Member, Cut}
-use Rattle.mg_derive.specs.Symbols.{IsPlaceIn, IsSymbolOf, word_of, written_out, letters_alone}
+use Rattle.mg_derive.specs.Symbols.{IsPlaceIn, word_of, written_out, letters_alone}
 use Rattle.mg_derive.specs.Reading.{Runs, Standing, Takes}
 use Rattle.mg_derive.specs.Acceptance.{IsAccepted}
-use Rattle.mg_derive.specs.Room.{Room, HasRoom}
+use Rattle.mg_derive.specs.Room.{Room, HasRoomForLength}
 use Rattle.mg_derive.specs.Walk.{WritesAtMost}
 use Rattle.mg_derive.proofs.Parts.{accepted_from_runs, runs_from_accepted}
 
@@ -209,11 +208,39 @@ finished ask text i goal members l w r a g n e h =
 
 -- ---- room for texts of a length
 
-written_within : (ask : Inquiry) (most : ℕ) → ((symbol : Symbol) → IsSymbolOf ask symbol → length (word_of ask symbol) ≤ most)
-    → (text : List Symbol) → AllByRecursion (IsSymbolOf ask) text → length (written_out ask text) ≤ most * length text
-written_within ask most h [] s = omega arith
-written_within ask most h (symbol ∷ text) s =
-    rw length-append (omega (arith, h symbol s.0, written_within ask most h text s.1))
+-- no symbol writes more letters than the longest word has
+any_index : (words : List (List ℤ)) (most : ℕ) → EachIndex words (λ k. length (slice_index_or words k []) ≤ most) → (k : ℕ) → length (slice_index_or words k []) ≤ most
+any_index words most h k =
+    elim (cases_lt k (length words)) as (λ _. length (slice_index_or words k []) ≤ most) [
+      | inl within ↦ h k within
+      | inr past ↦ omega (arith, ap length (get_or_past words k [] past))
+    ]
+
+length_signed : (inverse : Bool) (w : List ℤ) → length (signed inverse w) ≡ length w
+length_signed false w = refl
+length_signed true w = length-inv w
+
+longest_writes : (ask : Inquiry) (relator member most : ℕ) → EachIndex ask.group.relators (λ k. length (slice_index_or ask.group.relators k []) ≤ relator)
+    → EachIndex ask.subgroup (λ k. length (slice_index_or ask.subgroup k []) ≤ member) → 1 ≤ most → relator ≤ most → member ≤ most → WritesAtMost ask most
+longest_writes ask relator member most r m one below_r below_m (Letter x) = one
+longest_writes ask relator member most r m one below_r below_m (Relator place inverse) =
+    omega (arith, length_signed inverse (slice_index_or ask.group.relators (place - 1) []), any_index ask.group.relators relator r (place - 1))
+longest_writes ask relator member most r m one below_r below_m (Member place inverse) =
+    omega (arith, length_signed inverse (slice_index_or ask.subgroup (place - 1) []), any_index ask.subgroup member m (place - 1))
+longest_writes ask relator member most r m one below_r below_m Cut = omega arith
+
+pub longest_written : (ask : Inquiry) (relators members : List (List ℤ)) (relator member most : ℕ) → relators ≡ ask.group.relators → members ≡ ask.subgroup
+    → EachIndex relators (λ k. length (slice_index_or relators k []) ≤ relator) → EachIndex members (λ k. length (slice_index_or members k []) ≤ member)
+    → 1 ≤ most → relator ≤ most → member ≤ most → WritesAtMost ask most
+longest_written ask relators members relator member most e f r m =
+    longest_writes ask relator member most
+    (subst (λ (words : List (List ℤ)). EachIndex words (λ k. length (slice_index_or words k []) ≤ relator)) e r)
+    (subst (λ (words : List (List ℤ)). EachIndex words (λ k. length (slice_index_or words k []) ≤ member)) f m)
+
+written_within : (ask : Inquiry) (most : ℕ) → WritesAtMost ask most → (text : List Symbol) → length (written_out ask text) ≤ most * length text
+written_within ask most h [] = omega arith
+written_within ask most h (symbol ∷ text) =
+    rw length-append (omega (arith, h symbol, written_within ask most h text))
 
 letters_within : (text : List Symbol) → length (letters_alone text) ≤ length text
 letters_within [] = omega arith
@@ -223,10 +250,10 @@ letters_within (Member place inverse ∷ text) = omega (arith, letters_within te
 letters_within (Cut ∷ text) = omega (arith, letters_within text)
 
 pub room_for_length : (ask : Inquiry) (most symbols : ℕ) (room : Room) → WritesAtMost ask most → symbols ≤ room.letters → most * symbols ≤ room.written
-    → (text : List Symbol) → AllByRecursion (IsSymbolOf ask) text → length text ≤ symbols → HasRoom ask text room
-room_for_length ask most symbols room h l w text s n = record {
+    → HasRoomForLength ask symbols room
+room_for_length ask most symbols room h l w text n = record {
   letters = omega (arith, letters_within text);
-  written = omega (arith, written_within ask most h text s, mul-le-mul_left most n);
+  written = omega (arith, written_within ask most h text, mul-le-mul_left most n);
 }
 
 -- two things that an answer says, joined

@@ -1,6 +1,7 @@
 -- Which derivations are accepted, and which text has which number.
 use Rattle.std.specs.Prelude.{◌≡◌, ℕ, ℤ, ◌+◌, List, [], ◌∷◌, ◌++◌, map}
 use Rattle.std.specs.List.{AllByRecursion, flat_map}
+use Rattle.mg_words.specs.Word.{IsOver}
 use Rattle.mg_words.specs.Chain.{FreelyEqual}
 use Rattle.mg_present.specs.Ask.{Inquiry}
 use Rattle.mg_derive.specs.declared.symbol.Symbol.{Symbol}
@@ -60,3 +61,8 @@ pub record AcceptedAt (ask : Inquiry) (n : ℕ) : Type 0 where
   pub text : List Symbol
   pub numbered : IsNumbered ask text n
   pub accepted : IsAccepted ask text
+
+-- the relators and the subgroup words are words over the generators of the group
+pub record IsOverGenerators (ask : Inquiry) : Type 0 where
+  pub relators : AllByRecursion (IsOver ask.group.generators) ask.group.relators
+  pub subgroup : AllByRecursion (IsOver ask.group.generators) ask.subgroup

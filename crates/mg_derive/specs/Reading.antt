@@ -1,7 +1,7 @@
 -- How the checker reads a text once, from the front. Private functions alone cite it; what is accepted is
 -- said without it.
 use Rattle.std.specs.Prelude.{◌≡◌, ℕ, ◌+◌, ◌<◌, Bool, true, false, ℤ, List, [], ◌∷◌, ◌++◌, length, drop, slice_index_or}
-use Rattle.mg_words.proofs.Free.{free_form}
+use Rattle.mg_words.specs.Reduction.{free_form}
 use Rattle.mg_present.specs.Ask.{Inquiry}
 use Rattle.mg_derive.specs.declared.symbol.Symbol.{Symbol}
 use Rattle.mg_derive.specs.declared.symbol.Symbol.TheVariants.{Letter, Relator, Member, Cut}

@@ -14,6 +14,10 @@ pub record HasRoom (ask : Inquiry) (text : List Symbol) (room : Room) : Type 0 w
   pub letters : length (letters_alone text) ≤ room.letters
   pub written : length (written_out ask text) ≤ room.written
 
+-- there is room for every text of at most so many symbols, whatever its symbols
+abbrev pub HasRoomForLength : Inquiry → ℕ → Room → Type 0
+HasRoomForLength ask symbols room = (text : List Symbol) → length text ≤ symbols → HasRoom ask text room
+
 -- what contracts see of a derivation: its symbols, and how many it can hold with no memory
 pub record Text : Type 0 where
   pub symbols : List Symbol

@@ -1,5 +1,6 @@
 -- The search through the texts of an Ask in the order of their numbers.
-use Rattle.std.specs.Prelude.{◌≡◌, ℕ, ◌^◌, ◌<◌, ◌≤◌, Bool, true, List}
+use Rattle.std.specs.Prelude.{◌≡◌, ℕ, ◌<◌, ◌≤◌, Bool, true, List}
+use Rattle.mg_numbers.specs.declared.blocks.TheConstants.{MOST_NUMBER}
 use Rattle.mg_present.specs.Ask.{Inquiry}
 use Rattle.mg_derive.specs.declared.symbol.Symbol.{Symbol}
 use Rattle.mg_derive.specs.declared.walk.Walk.{Walk}
@@ -15,6 +16,6 @@ pub record Searched : Type 0 where
 
 -- what a search keeps true of its parts: while it goes on, its walk does, and no text up to the cursor is accepted
 pub record IsReady (ask : Inquiry) (cursor : ℕ) (is_open : Bool) (walk : Walk) : Type 0 where
-  pub most : cursor ≤ 2 ^ 62
+  pub most : cursor ≤ MOST_NUMBER
   pub walks : is_open ≡ true → IsWalk ask walk
   pub ahead : is_open ≡ true → cursor < walk.next

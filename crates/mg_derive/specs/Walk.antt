@@ -1,27 +1,27 @@
 -- The walk of a search through the texts of an Ask: where it stands, and which numbers it has passed.
-use Rattle.std.specs.Prelude.{◌≡◌, ℕ, ◌+◌, ◌-◌, ◌*◌, ◌^◌, ◌≤◌, ◌⊎◌, List, [], ◌∷◌, ◌++◌, length, map, replicate}
+use Rattle.std.specs.Prelude.{◌≡◌, ℕ, ◌+◌, ◌-◌, ◌*◌, ◌^◌, ◌<◌, ◌≤◌, ◌⊎◌, List, [], ◌∷◌, ◌++◌, length, map, replicate}
 use Rattle.std.specs.List.{AllByRecursion}
 use Rattle.mg_numbers.specs.Texts.{value}
+use Rattle.mg_numbers.specs.declared.blocks.TheConstants.{MOST_NUMBER}
+use Rattle.mg_numbers.specs.declared.texts.TheConstants.{MOST_DIGITS}
 use Rattle.mg_numbers.specs.Plain.{NoneAmong}
+use Rattle.mg_present.specs.declared.ask.TheConstants.{MOST_GOALS}
 use Rattle.mg_present.specs.Ask.{Inquiry, IsAsked}
 use Rattle.mg_derive.specs.declared.symbol.Symbol.{Symbol}
 use Rattle.mg_derive.specs.declared.walk.Walk.{Walk}
+use Rattle.mg_derive.specs.declared.walk.TheConstants.{SEARCHED_SYMBOLS}
 use Rattle.mg_derive.specs.Symbols.{IsSymbolOf, digit_of, symbol_count, word_of}
 use Rattle.mg_derive.specs.Acceptance.{IsAccepted, AcceptedAt}
-use Rattle.mg_derive.specs.Room.{Room, HasRoom}
+use Rattle.mg_derive.specs.Room.{HasRoomForLength}
 use Rattle.mg_derive.specs.Reading.{Standing, at_first, Leads}
 
 -- no text that begins with these symbols and has this many more is accepted
 abbrev pub NoneFollow : Inquiry → List Symbol → ℕ → Type 0
 NoneFollow ask text left = (rest : List Symbol) → AllByRecursion (IsSymbolOf ask) rest → length rest ≡ left → IsAccepted ask (text ++ rest) → ⊥
 
--- there is room for every text with at most 63 symbols
-abbrev pub HasRoomForAll : Inquiry → Room → Type 0
-HasRoomForAll ask room = (text : List Symbol) → AllByRecursion (IsSymbolOf ask) text → length text ≤ 63 → HasRoom ask text room
-
 -- no symbol writes more letters than this
 abbrev pub WritesAtMost : Inquiry → ℕ → Type 0
-WritesAtMost ask most = (symbol : Symbol) → IsSymbolOf ask symbol → length (word_of ask symbol) ≤ most
+WritesAtMost ask most = (symbol : Symbol) → length (word_of ask symbol) ≤ most
 
 -- what a walk is made with
 pub record IsEquipped (ask : Inquiry) (walk : Walk) : Type 0 where
@@ -29,8 +29,8 @@ pub record IsEquipped (ask : Inquiry) (walk : Walk) : Type 0 where
   pub base : walk.base ≡ symbol_count ask
   pub some : 1 ≤ walk.longest
   pub longest : WritesAtMost ask walk.longest
-  pub capacity : 4096 ≤ walk.text.capacity
-  pub room : HasRoomForAll ask (record { letters = walk.letters.capacity; written = walk.written.capacity })
+  pub capacity : MOST_DIGITS ≤ walk.text.capacity
+  pub room : HasRoomForLength ask SEARCHED_SYMBOLS (record { letters = walk.letters.capacity; written = walk.written.capacity })
 
 -- where the reader of the walk stands
 abbrev pub standing_of : Walk → Standing
@@ -50,7 +50,7 @@ text_length walk = length walk.text.symbols + 1 + walk.left
 
 -- texts whose numbers are at most 2^62 have so many symbols, unless an accepted one comes before
 abbrev pub IsShort : Inquiry → ℕ → Type 0
-IsShort ask symbols = (symbols ≤ 62) ⊎ ((symbol_count ask ≡ 1) × (symbols ≤ 4096))
+IsShort ask symbols = (symbols < SEARCHED_SYMBOLS) ⊎ ((symbol_count ask ≡ 1) × (symbols ≤ MOST_GOALS))
 
 -- the value of the first text where the walk stands: the digits of its text, its digit, and then digits 1
 abbrev pub first_at : Inquiry → Walk → ℕ
@@ -72,4 +72,4 @@ pub record IsWalk (ask : Inquiry) (walk : Walk) : Type 0 where
   pub place : IsPlace ask walk
   pub some : 1 ≤ walk.next
   pub none : NoneAmong (AcceptedAt ask) 0 (walk.next - 1)
-  pub number : walk.next ≤ 2 ^ 62 → walk.next ≡ first_at ask walk + 1
+  pub number : walk.next ≤ MOST_NUMBER → walk.next ≡ first_at ask walk + 1

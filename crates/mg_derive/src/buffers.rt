@@ -1,10 +1,8 @@
 //! The room that checking a derivation takes, made before.
-ghost use Rattle.std.specs.Prelude.{◌≡◌, ◌≤◌, ◌-◌, List, length, slice_index_or, IfOk, EachIndex, []};
-ghost use Rattle.std.specs.List.{AllByRecursion};
-ghost use Rattle.mg_derive.specs.Room.{HasRoom};
+ghost use Rattle.std.specs.Prelude.{◌≡◌, ◌≤◌, ◌-◌, length, slice_index_or, IfOk, EachIndex, []};
+ghost use Rattle.mg_derive.specs.Room.{HasRoom, HasRoomForLength};
 ghost use Rattle.mg_derive.specs.Walk.{WritesAtMost};
-ghost use Rattle.mg_derive.specs.Symbols.{IsSymbolOf, letters_alone, written_out, word_of};
-ghost use Rattle.mg_derive.specs.declared.symbol.Symbol.{Symbol as SymbolOf};
+ghost use Rattle.mg_derive.specs.Symbols.{letters_alone, written_out, word_of};
 
 use crate::derivation::Derivation;
 use crate::symbol::Symbol;
@@ -40,10 +38,9 @@ impl Buffers {
         Buffers::with_room(alloc, letters, written)
     }
 
-    /// Room to check any text of at most this many symbols of the Ask.
+    /// Room to check any text of at most this many symbols, whatever its symbols.
     pub fn for_length(alloc: Global, ask: &Ask, symbols: u32) -> Result<Buffers, NoMemory>
-        ensures { IfOk result (λ room. (text : List SymbolOf) → AllByRecursion (IsSymbolOf ask.now) text →
-            length text ≤ symbols → HasRoom ask.now text room) }
+        ensures { IfOk result (λ room. HasRoomForLength ask.now symbols room) }
     {
         let letters = symbols as usize;
         let Some(written) = most_written(ask).checked_mul(letters) else {
@@ -118,7 +115,7 @@ fn length_at(words: &Words, place: u32) -> usize
     }
 }
 
-// The most letters that a symbol of the Ask writes, at least 1.
+// The most letters that a symbol writes, at least 1.
 pub(crate) fn most_written(ask: &Ask) -> usize
     ensures some { 1 ≤ result }
     ensures most { WritesAtMost ask.now result }

@@ -1,7 +1,7 @@
 //! The checker of derivations.
 ghost use Rattle.std.specs.Prelude.{◌≡◌, ◌≤◌, ◌<◌, ◌+◌, ◌-◌, ◌↔◌, ◌++◌, [], ◌∷◌, List, length, drop, false, slice_index_or, IsTrue, IfSome, IfNone, None};
 ghost use Rattle.mg_words.specs.Word.{IsReduced, inv};
-ghost use Rattle.mg_words.proofs.Free.{free_form};
+ghost use Rattle.mg_words.specs.Reduction.{free_form};
 ghost use Rattle.mg_present.specs.Same.{signed};
 ghost use Rattle.mg_derive.specs.Acceptance.{IsAccepted};
 ghost use Rattle.mg_derive.specs.Room.{HasRoom};
@@ -76,19 +76,35 @@ pub(crate) fn take(
     requires goal { stand.goal ≤ length ask.now.goals }
     requires letters_reduced { IsReduced letters.old.letters }
     requires written_reduced { IsReduced written.old.letters }
-    requires letters { length letters.old.letters + length (letter_of symbol) ≤ letters.old.capacity }
-    requires written { length written.old.letters + length (word_of ask.now symbol) ≤ written.old.capacity }
+    requires letters { length letters.old.letters + length (letter_of symbol) ≤
+        letters.old.capacity }
+    requires written { length written.old.letters + length (word_of ask.now symbol) ≤
+        written.old.capacity }
     ensures taken { IfSome result (λ next. Takes ask.now symbol
-        (record { goal = stand.goal; members = stand.members; letters = letters.old.letters; written = written.old.letters })
-        (record { goal = next.goal; members = next.members; letters = letters.new.letters; written = written.new.letters })) }
+        (record {
+          goal = stand.goal;
+          members = stand.members;
+          letters = letters.old.letters;
+          written = written.old.letters;
+        })
+        (record {
+          goal = next.goal;
+          members = next.members;
+          letters = letters.new.letters;
+          written = written.new.letters;
+        })) }
     ensures refused { IfNone result ((rest : List SymbolOf) →
-        Runs ask.now (symbol ∷ rest) (drop stand.goal ask.now.goals) stand.members letters.old.letters written.old.letters → ⊥) }
-    ensures same { result ≡ None → (letters.new.letters ≡ letters.old.letters) × (written.new.letters ≡ written.old.letters) }
+        Runs ask.now (symbol ∷ rest) (drop stand.goal ask.now.goals) stand.members
+        letters.old.letters written.old.letters → ⊥) }
+    ensures same { result ≡ None →
+        (letters.new.letters ≡ letters.old.letters) × (written.new.letters ≡ written.old.letters) }
     ensures goal { IfSome result (λ next. next.goal ≤ length ask.now.goals) }
     ensures letters_reduced { IsReduced letters.new.letters }
     ensures written_reduced { IsReduced written.new.letters }
-    ensures letters { length letters.new.letters ≤ length letters.old.letters + length (letter_of symbol) }
-    ensures written { length written.new.letters ≤ length written.old.letters + length (word_of ask.now symbol) }
+    ensures letters { length letters.new.letters ≤
+        length letters.old.letters + length (letter_of symbol) }
+    ensures written { length written.new.letters ≤
+        length written.old.letters + length (word_of ask.now symbol) }
     ensures letters_room { letters.old.capacity ≤ letters.new.capacity }
     ensures written_room { written.old.capacity ≤ written.new.capacity }
 {
@@ -145,11 +161,15 @@ pub(crate) fn take_back(
     requires goal { goal < length ask.now.goals }
     requires letters_reduced { IsReduced letters.old.letters }
     requires written_reduced { IsReduced written.old.letters }
-    requires letters { length letters.old.letters + length (letter_of symbol) ≤ letters.old.capacity }
-    requires written { length written.old.letters + length (word_of ask.now symbol) ≤ written.old.capacity }
-    requires goal_room { symbol ≡ Cut → length (slice_index_or ask.now.goals goal []) ≤ written.old.capacity }
-    ensures back { (before after : Standing) → before.goal ≡ goal → IsReduced before.letters → IsReduced before.written →
-        Takes ask.now symbol before after → after.letters ≡ letters.old.letters → after.written ≡ written.old.letters →
+    requires letters { length letters.old.letters + length (letter_of symbol) ≤
+        letters.old.capacity }
+    requires written { length written.old.letters + length (word_of ask.now symbol) ≤
+        written.old.capacity }
+    requires goal_room { symbol ≡ Cut →
+        length (slice_index_or ask.now.goals goal []) ≤ written.old.capacity }
+    ensures back { (before after : Standing) → before.goal ≡ goal →
+        IsReduced before.letters → IsReduced before.written → Takes ask.now symbol before after →
+        after.letters ≡ letters.old.letters → after.written ≡ written.old.letters →
         (letters.new.letters ≡ before.letters) × (written.new.letters ≡ before.written) }
     ensures letters_room { letters.old.capacity ≤ letters.new.capacity }
     ensures written_room { written.old.capacity ≤ written.new.capacity }
@@ -183,12 +203,15 @@ fn is_word(written: &Word, goal: &Word) -> bool
 // word, and then the reduced word stays.
 fn write_sign(words: &Words, place: u32, inverse: bool, written: &mut Word) -> bool
     requires reduced { IsReduced written.old.letters }
-    requires room { length written.old.letters + length (signed inverse (slice_index_or words.now (place - 1) [])) ≤ written.old.capacity }
+    requires room { length written.old.letters +
+        length (signed inverse (slice_index_or words.now (place - 1) [])) ≤ written.old.capacity }
     ensures place { IsTrue result ↔ IsPlaceIn words.now place }
-    ensures written { IsTrue result → written.new.letters ≡ free_form (written.old.letters ++ signed inverse (slice_index_or words.now (place - 1) [])) }
+    ensures written { IsTrue result → written.new.letters ≡ free_form (written.old.letters ++
+        signed inverse (slice_index_or words.now (place - 1) [])) }
     ensures same { result ≡ false → written.new.letters ≡ written.old.letters }
     ensures reduced { IsReduced written.new.letters }
-    ensures length { length written.new.letters ≤ length written.old.letters + length (signed inverse (slice_index_or words.now (place - 1) [])) }
+    ensures length { length written.new.letters ≤ length written.old.letters +
+        length (signed inverse (slice_index_or words.now (place - 1) [])) }
     ensures capacity { written.old.capacity ≤ written.new.capacity }
 {
     if place == 0 || place as usize > words.len() {
@@ -223,7 +246,8 @@ fn write_inverse(word: &[Letter], written: &mut Word)
     requires room { length written.old.letters + length word.now ≤ written.old.capacity }
     ensures product { written.new.letters ≡ free_form (written.old.letters ++ inv word.now) }
     ensures reduced { IsReduced written.new.letters }
-    ensures length { length written.new.letters ≤ length written.old.letters + length (inv word.now) }
+    ensures length { length written.new.letters ≤
+        length written.old.letters + length (inv word.now) }
     ensures capacity { written.old.capacity ≤ written.new.capacity }
 {
     for letter in word.iter().rev() {

@@ -1,7 +1,9 @@
 //! Symbols by their digits, and texts by their numbers.
-ghost use Rattle.std.specs.Prelude.{◌≡◌, ℕ, ◌+◌, ◌*◌, ◌^◌, ◌≤◌, List, length, map};
+ghost use Rattle.std.specs.Prelude.{◌≡◌, ℕ, ◌+◌, ◌*◌, ◌≤◌, List, length, map};
 ghost use Rattle.std.specs.List.{AllByRecursion};
 ghost use Rattle.mg_numbers.specs.Texts.{IsText};
+ghost use Rattle.mg_numbers.specs.declared.blocks.TheConstants.{MOST_NUMBER};
+ghost use Rattle.mg_numbers.specs.declared.texts.TheConstants.{MOST_BASE, MOST_DIGITS};
 ghost use Rattle.mg_present.specs.Ask.{Inquiry};
 ghost use Rattle.mg_derive.specs.Symbols.{IsSymbolOf, digit_of as value_of, pair_digit, symbol_count as count_of};
 ghost use Rattle.mg_derive.specs.Acceptance.{IsNumbered};
@@ -16,7 +18,7 @@ use mg_words::Letter;
 /// How many symbols the Ask has.
 pub fn symbol_count(ask: &Ask) -> u32
     ensures count { result ≡ count_of ask.now }
-    ensures most { result ≤ 769 }
+    ensures most { result ≤ MOST_BASE }
 {
     let group = ask.group();
     2 * group.generators() + 2 * group.relators().len() as u32 + 2 * ask.subgroup().len() as u32 + 1
@@ -89,10 +91,10 @@ fn sign_digit(place: u32, inverse: bool) -> u32
 
 /// Puts the text of the Ask that has this number. It takes no memory.
 pub fn symbols_at(ask: &Ask, number: u64, out: &mut Derivation, digits: &mut Digits)
-    requires room { 4096 ≤ out.old.capacity }
+    requires room { MOST_DIGITS ≤ out.old.capacity }
     requires least { 1 ≤ number }
-    requires most { number ≤ 2 ^ 62 }
-    requires one_symbol { count_of ask.now ≡ 1 → number ≤ 4097 }
+    requires most { number ≤ MOST_NUMBER }
+    requires one_symbol { count_of ask.now ≡ 1 → number ≤ MOST_DIGITS + 1 }
     ensures numbered { IsNumbered ask.now out.new.symbols number }
     ensures digits { digits.new ≡ map (value_of ask.now) out.new.symbols }
     ensures capacity { out.old.capacity ≤ out.new.capacity }
@@ -118,7 +120,10 @@ pub(crate) fn write_symbols(ask: &Ask, digits: &[u32], out: &mut Derivation)
 /// Texts of the symbols of an Ask and numbers from 1 correspond one to one: two texts with one number are
 /// one text, each text has a number, and each number from 1 is that of a text.
 pub fn texts_and_numbers_correspond()
-    ensures one_text { (ask : Inquiry) (s t : List SymbolOf) (n : ℕ) → IsNumbered ask s n → IsNumbered ask t n → s ≡ t }
-    ensures each_text { (ask : Inquiry) (t : List SymbolOf) → AllByRecursion (IsSymbolOf ask) t → (n : ℕ) × (1 ≤ n) × IsNumbered ask t n }
-    ensures each_number { (ask : Inquiry) (n : ℕ) → 1 ≤ n → (t : List SymbolOf) × IsNumbered ask t n }
+    ensures one_text { (ask : Inquiry) (s t : List SymbolOf) (n : ℕ) → IsNumbered ask s n →
+        IsNumbered ask t n → s ≡ t }
+    ensures each_text { (ask : Inquiry) (t : List SymbolOf) → AllByRecursion (IsSymbolOf ask) t →
+        (n : ℕ) × (1 ≤ n) × IsNumbered ask t n }
+    ensures each_number { (ask : Inquiry) (n : ℕ) → 1 ≤ n →
+        (t : List SymbolOf) × IsNumbered ask t n }
 {}

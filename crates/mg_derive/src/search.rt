@@ -1,5 +1,6 @@
 //! The search through the texts of an Ask in the order of their numbers.
-ghost use Rattle.std.specs.Prelude.{◌≡◌, ℕ, ◌+◌, ◌^◌, ◌≤◌, true, false, [], IfOk};
+ghost use Rattle.std.specs.Prelude.{◌≡◌, ℕ, ◌+◌, ◌≤◌, true, false, [], IfOk};
+ghost use Rattle.mg_numbers.specs.declared.blocks.TheConstants.{MOST_NUMBER};
 ghost use Rattle.mg_numbers.specs.Plain.{NoneAmong, TestsAll, FindsFirst};
 ghost use Rattle.mg_derive.specs.Acceptance.{AcceptedAt, IsAccepted, IsNumbered};
 ghost use Rattle.mg_derive.specs.declared.search.Advance.TheVariants.{More, Found};
@@ -38,7 +39,12 @@ impl Model for Enumeration {
 
     ghost Value = { Searched };
 
-    ghost view = { λ s. record { ask = s.ask; cursor = s.cursor; is_open = s.is_open; text = s.walk.text.symbols } };
+    ghost view = { λ s. record {
+      ask = s.ask;
+      cursor = s.cursor;
+      is_open = s.is_open;
+      text = s.walk.text.symbols;
+    } };
 
     ghost invariant = { λ s. IsReady s.ask s.cursor s.is_open s.walk };
 }
@@ -70,8 +76,9 @@ impl Enumeration {
     /// The number of the last text tested, which is how many texts were tested.
     pub fn cursor(&self) -> u64
         ensures value { result ≡ self.now.cursor }
-        ensures most { result ≤ 2 ^ 62 }
-        ensures none { self.now.is_open ≡ true → NoneAmong (AcceptedAt self.now.ask) 0 self.now.cursor }
+        ensures most { result ≤ MOST_NUMBER }
+        ensures none { self.now.is_open ≡ true →
+            NoneAmong (AcceptedAt self.now.ask) 0 self.now.cursor }
     {
         self.cursor
     }
@@ -87,23 +94,29 @@ impl Enumeration {
     pub fn advance(&mut self, units: u64) -> Advance
         requires goes_on { self.old.is_open ≡ true }
         requires some { 1 ≤ units }
-        requires most { self.old.cursor + units ≤ 2 ^ 62 }
+        requires most { self.old.cursor + units ≤ MOST_NUMBER }
         ensures ask { self.new.ask ≡ self.old.ask }
 
         // All units are spent.
-        ensures more { result ≡ More → TestsAll (AcceptedAt self.old.ask) self.old.cursor units units }
+        ensures more { result ≡ More →
+            TestsAll (AcceptedAt self.old.ask) self.old.cursor units units }
         ensures more_cursor { result ≡ More → self.new.cursor ≡ self.old.cursor + units }
         ensures more_goes_on { result ≡ More → self.new.is_open ≡ true }
 
         // The first accepted text is found.
-        ensures found { (spent : ℕ) → result ≡ Found spent → FindsFirst (AcceptedAt self.old.ask) self.old.cursor units spent }
-        ensures found_cursor { (spent : ℕ) → result ≡ Found spent → self.new.cursor ≡ self.old.cursor + spent }
+        ensures found { (spent : ℕ) → result ≡ Found spent →
+            FindsFirst (AcceptedAt self.old.ask) self.old.cursor units spent }
+        ensures found_cursor { (spent : ℕ) → result ≡ Found spent →
+            self.new.cursor ≡ self.old.cursor + spent }
         ensures found_ends { (spent : ℕ) → result ≡ Found spent → self.new.is_open ≡ false }
-        ensures found_numbered { (spent : ℕ) → result ≡ Found spent → IsNumbered self.new.ask self.new.text self.new.cursor }
-        ensures found_accepted { (spent : ℕ) → result ≡ Found spent → IsAccepted self.new.ask self.new.text }
+        ensures found_numbered { (spent : ℕ) → result ≡ Found spent →
+            IsNumbered self.new.ask self.new.text self.new.cursor }
+        ensures found_accepted { (spent : ℕ) → result ≡ Found spent →
+            IsAccepted self.new.ask self.new.text }
 
         // While the search goes on, no text up to its cursor is accepted.
-        ensures none { self.new.is_open ≡ true → NoneAmong (AcceptedAt self.new.ask) 0 self.new.cursor }
+        ensures none { self.new.is_open ≡ true →
+            NoneAmong (AcceptedAt self.new.ask) 0 self.new.cursor }
     {
         let last = self.cursor + units;
         while self.walk.next <= last {

@@ -1,4 +1,4 @@
-ghost use Rattle.std.specs.Prelude.{◌≤◌, IfOk, length};
+ghost use Rattle.std.specs.Prelude.{◌≡◌, ◌≤◌, true, IfOk, length};
 ghost use Rattle.std.specs.List.{AllByRecursion};
 ghost use Rattle.mg_present.specs.Ask.{IsReducedOver};
 ghost use Rattle.mg_present.specs.Presentation.{IsRelator};
@@ -10,248 +10,247 @@ use mg_words::{Letter, Word, Words, is_over, is_reduced};
 use std::alloc::{AllocError, Global};
 use std::test::Fail;
 
-const A: Letter = Letter {
-    generator: 1,
-    inverse: false,
-};
-
-const B: Letter = Letter {
-    generator: 2,
-    inverse: false,
-};
-
-const A_BACK: Letter = Letter {
-    generator: 1,
-    inverse: true,
-};
-
-const B_BACK: Letter = Letter {
-    generator: 2,
-    inverse: true,
-};
-
-const MEMBER_1: Symbol = Symbol::Member {
-    place: 1,
-    inverse: false,
-};
-
-const MEMBER_1_BACK: Symbol = Symbol::Member {
-    place: 1,
-    inverse: true,
-};
-
-const MEMBER_2_BACK: Symbol = Symbol::Member {
-    place: 2,
-    inverse: true,
-};
-
-const RELATOR_1: Symbol = Symbol::Relator {
-    place: 1,
-    inverse: false,
-};
-
-const RELATOR_3: Symbol = Symbol::Relator {
-    place: 3,
-    inverse: false,
-};
-
-// An Ask, the number of its first accepted text, and that text.
+// The Asks here, with words as texts: `a` and `b` are generators, `A` and `B` their inverses, and each word ends
+// with a full stop. In texts of symbols `r`, `s` and `t` are the relators, `h` and `k` the subgroup words, `R`, `H`
+// and `K` inverses of these, and `;` the cut.
 #[derive(Clone, Copy)]
-struct Row<'a> {
+struct Case {
     generators: u32,
-    relators: &'a [&'a [Letter]],
-    subgroup: &'a [&'a [Letter]],
-    goals: &'a [&'a [Letter]],
-    number: u64,
-    text: &'a [Symbol],
+    relators: &'static [u8],
+    subgroup: &'static [u8],
+    goals: &'static [u8],
+}
+
+const NOTHING: Case = Case {
+    generators: 0,
+    relators: b"",
+    subgroup: b"",
+    goals: b"",
+};
+
+const ONE: Case = Case {
+    generators: 1,
+    relators: b"aa.",
+    subgroup: b"",
+    goals: b".",
+};
+
+const SQUARE: Case = Case {
+    generators: 1,
+    relators: b"aa.",
+    subgroup: b"",
+    goals: b"aa.",
+};
+
+const TWO_SQUARES: Case = Case {
+    generators: 1,
+    relators: b"aa.",
+    subgroup: b"",
+    goals: b"aa.aa.",
+};
+
+const CONJUGATE: Case = Case {
+    generators: 2,
+    relators: b"aa.",
+    subgroup: b"",
+    goals: b"baaB.",
+};
+
+const SYMMETRIC: Case = Case {
+    generators: 2,
+    relators: b"aa.bbb.abab.",
+    subgroup: b"b.",
+    goals: b"aba.",
+};
+
+const FREE: Case = Case {
+    generators: 2,
+    relators: b"",
+    subgroup: b"aa.ab.",
+    goals: b"Ba.",
+};
+
+// The letter that is written so.
+fn letter(byte: u8) -> Letter {
+    Letter {
+        generator: if byte == b'a' || byte == b'A' { 1 } else { 2 },
+        inverse: byte == b'A' || byte == b'B',
+    }
+}
+
+// The symbol that is written so.
+fn symbol(byte: u8) -> Symbol {
+    match byte {
+        b'r' | b's' | b't' => Symbol::Relator {
+            place: u32::from(byte - b'q'),
+            inverse: false,
+        },
+        b'R' => Symbol::Relator {
+            place: 1,
+            inverse: true,
+        },
+        b'h' | b'k' => Symbol::Member {
+            place: if byte == b'h' { 1 } else { 2 },
+            inverse: false,
+        },
+        b'H' | b'K' => Symbol::Member {
+            place: if byte == b'H' { 1 } else { 2 },
+            inverse: true,
+        },
+        b';' => Symbol::Cut,
+        _ => Symbol::Letter(letter(byte)),
+    }
 }
 
 // These words, where each is reduced, over the generators and short; else no memory.
-fn words(alloc: Global, generators: u32, lists: &[&[Letter]]) -> Result<Words, NoMemory>
+fn words(alloc: Global, generators: u32, text: &[u8]) -> Result<Words, NoMemory>
     ensures relators { IfOk result (λ words. AllByRecursion (IsRelator generators) words) }
     ensures members { IfOk result (λ words. AllByRecursion (IsReducedOver generators) words) }
-    ensures count { IfOk result (λ words. length words ≤ length lists.now) }
+    ensures count { IfOk result (λ words. length words ≤ length text.now) }
 {
     let mut words = Words::new(alloc);
-    for list in lists {
-        let word = Word::from_letters(alloc, list)?;
+    let mut word = Word::new(alloc);
+    for &byte in text {
+        if byte != b'.' {
+            word.push_all(&[letter(byte)])?;
+            continue;
+        }
         if !is_reduced(&word) || !is_over(generators, &word) || word.letters().len() > 10_000 {
             return Err(AllocError);
         }
         words.push(word)?;
+        word = Word::new(alloc);
     }
     Ok(words)
 }
 
-fn ask_of(alloc: Global, row: &Row) -> Result<Ask, NoMemory> {
-    if row.generators > 64
-        || row.relators.len() > 256
-        || row.subgroup.len() > 64
-        || row.goals.len() > 4_096
+// The Ask of the case, where its texts are short; else no memory.
+fn ask_of(alloc: Global, case: &Case) -> Result<Ask, NoMemory> {
+    let generators = case.generators;
+    if generators > 64
+        || case.relators.len() > 64
+        || case.subgroup.len() > 64
+        || case.goals.len() > 64
     {
         return Err(AllocError);
     }
-    let group = Presentation::new(row.generators, words(alloc, row.generators, row.relators)?);
-    let subgroup = words(alloc, row.generators, row.subgroup)?;
-    let goals = words(alloc, row.generators, row.goals)?;
+    let group = Presentation::new(generators, words(alloc, generators, case.relators)?);
+    let subgroup = words(alloc, generators, case.subgroup)?;
+    let goals = words(alloc, generators, case.goals)?;
     Ok(Ask::new(group, subgroup, goals))
 }
 
-// So many empty words.
-fn empty_words(alloc: Global, count: usize) -> Result<Words, NoMemory>
-    ensures words { IfOk result (λ words. AllByRecursion (IsReducedOver 0) words) }
-    ensures count { IfOk result (λ words. length words ≤ count) }
-{
-    let mut words = Words::new(alloc);
-    for _word in 0..count {
-        words.push(Word::new(alloc))?;
+// The text that is written so.
+fn text_of(alloc: Global, bytes: &[u8]) -> Result<Derivation, NoMemory> {
+    let mut symbols = Vec::new(alloc);
+    for &byte in bytes {
+        symbols.push(symbol(byte))?;
     }
-    Ok(words)
+    Derivation::from_symbols(alloc, symbols.as_slice())
 }
 
-// Whether 4,096 empty words lie in the trivial subgroup of the trivial group.
-fn empty_goals(alloc: Global) -> Result<Ask, NoMemory> {
-    let group = Presentation::new(0, Words::new(alloc));
-    Ok(Ask::new(group, Words::new(alloc), empty_words(alloc, 4_096)?))
+// Whether the search stands at this number with the text that is written so.
+fn stands_at(
+    alloc: Global,
+    search: &Enumeration,
+    number: u64,
+    text: &[u8],
+) -> Result<bool, NoMemory> {
+    let text = text_of(alloc, text)?;
+    Ok(search.cursor() == number && search.text().symbols() == text.symbols())
 }
 
-// Whether the search finds as many cuts as goals there.
-fn cuts_are_found(alloc: Global) -> Result<bool, NoMemory> {
-    let mut search = Enumeration::start(alloc, empty_goals(alloc)?)?;
-    if search.advance(5_000) != (Advance::Found { spent: 4_097 }) {
-        return Ok(false);
-    }
-    Ok(search.text().symbols().len() == 4_096)
+// Whether the search of the case finds this text, at this number and not before.
+fn finds(alloc: Global, case: &Case, number: u64, text: &[u8]) -> Result<bool, NoMemory> {
+    let mut search = Enumeration::start(alloc, ask_of(alloc, case)?)?;
+    let end = search.advance(300_000);
+    Ok(end == (Advance::Found { spent: number }) && stands_at(alloc, &search, number, text)?)
 }
 
-// Whether b^-1 a lies in the subgroup of the free group that a^2 and a b generate.
-fn free_ask(alloc: Global) -> Result<Ask, NoMemory> {
-    ask_of(
-        alloc,
-        &Row {
-            generators: 2,
-            relators: &[],
-            subgroup: &[&[A, A], &[A, B]],
-            goals: &[&[B_BACK, A]],
-            number: 703,
-            text: &[MEMBER_2_BACK, MEMBER_1, Symbol::Cut],
-        },
-    )
-}
-
-// Whether the search finds the text of the row, at its number and not before.
-fn finds(alloc: Global, row: &Row) -> Result<bool, NoMemory> {
-    let mut search = Enumeration::start(alloc, ask_of(alloc, row)?)?;
-    let spent = row.number;
-    if search.advance(300_000) != (Advance::Found { spent }) {
-        return Ok(false);
-    }
-    Ok(search.cursor() == spent && search.text().symbols() == row.text)
-}
-
-// Whether the search finds the text of the row in turns of so many units.
-fn finds_in_turns(alloc: Global, row: &Row, units: u64) -> Result<bool, NoMemory>
+// In how many turns of so many units the search ends, but one.
+fn turns_before_the_last(search: &mut Enumeration, units: u64) -> u32
+    requires goes_on { search.old.is_open ≡ true }
     requires least { 1 ≤ units }
     requires most { units ≤ 1_000 }
 {
-    let mut search = Enumeration::start(alloc, ask_of(alloc, row)?)?;
-    for _turn in 0..2_000 {
-        if search.cursor() > 300_000 {
-            return Ok(false);
-        }
-        if search.advance(units) != Advance::More {
-            return Ok(search.cursor() == row.number && search.text().symbols() == row.text);
+    for turn in 0..2_000 {
+        if search.cursor() > 300_000 || search.advance(units) != Advance::More {
+            return turn;
         }
     }
-    Ok(false)
+    2_000
 }
 
-// Whether the digit 8 has a symbol that has the digit 8.
+// Whether the search in a free group finds its text after so many turns of so many units.
+fn finds_in_turns(alloc: Global, units: u64, turns: u32) -> Result<bool, NoMemory>
+    requires least { 1 ≤ units }
+    requires most { units ≤ 1_000 }
+{
+    let mut search = Enumeration::start(alloc, ask_of(alloc, &FREE)?)?;
+    let goals = search.ask().goals().len();
+    let made = turns_before_the_last(&mut search, units);
+    Ok(goals == 1 && made == turns && stands_at(alloc, &search, 703, b"Kh;")?)
+}
+
+// Whether the search finds as many cuts as goals where these are 4,096 empty words in the trivial group.
+fn cuts_are_found(alloc: Global) -> Result<bool, NoMemory> {
+    let goals = words(alloc, 0, Vec::from_elem(alloc, b'.', 4_096)?.as_slice())?;
+    if goals.len() > 4_096 {
+        return Err(AllocError);
+    }
+    let group = Presentation::new(0, Words::new(alloc));
+    let mut search = Enumeration::start(alloc, Ask::new(group, Words::new(alloc), goals))?;
+    let end = search.advance(5_000);
+    Ok(end == (Advance::Found { spent: 4_097 }) && search.text().symbols().len() == 4_096)
+}
+
+// Whether the text is accepted for the Ask of the case.
+fn is_accepted(alloc: Global, case: &Case, bytes: &[u8]) -> Result<bool, NoMemory> {
+    let ask = ask_of(alloc, case)?;
+    let text = text_of(alloc, bytes)?;
+    let mut buffers = Buffers::for_text(alloc, &ask, &text)?;
+    Ok(accepts(&ask, &text, &mut buffers))
+}
+
+// Whether the text, of at most three symbols, is accepted for the Ask in a free group with room for three.
+fn is_accepted_in_three(alloc: Global, bytes: &[u8]) -> Result<bool, NoMemory> {
+    let ask = ask_of(alloc, &FREE)?;
+    let text = text_of(alloc, bytes)?;
+    if text.symbols().len() > 3 {
+        return Ok(false);
+    }
+    let mut buffers = Buffers::for_length(alloc, &ask, 3)?;
+    Ok(accepts(&ask, &text, &mut buffers))
+}
+
+// Whether this is the text with the number 703 of the Ask in a free group.
+fn is_text_703(alloc: Global, bytes: &[u8]) -> Result<bool, NoMemory> {
+    let ask = ask_of(alloc, &FREE)?;
+    let mut text = Derivation::with_room(alloc, 4_096)?;
+    let mut digits = Digits::make(alloc)?;
+    symbols_at(&ask, 703, &mut text, &mut digits);
+    let wanted = text_of(alloc, bytes)?;
+    Ok(text.copy(alloc)?.symbols() == wanted.symbols())
+}
+
+// Whether the digit 8 of 9 is that of the inverse of the second subgroup word.
 fn digit_comes_back(alloc: Global) -> Result<bool, NoMemory> {
-    let ask = free_ask(alloc)?;
+    let ask = ask_of(alloc, &FREE)?;
     if symbol_count(&ask) != 9 {
         return Ok(false);
     }
-    let symbol = symbol_of(&ask, 8);
-    Ok(digit_of(&ask, symbol) == 8)
+    let sign = symbol_of(&ask, 8);
+    Ok(digit_of(&ask, sign) == 8 && sign == symbol(b'K'))
 }
 
 #[test]
-fn an_ask_of_nothing_is_settled_by_the_empty_text(rt: HostRuntime) -> Result<(), Fail> {
-    let nothing = Row {
-        generators: 0,
-        relators: &[],
-        subgroup: &[],
-        goals: &[],
-        number: 1,
-        text: &[],
-    };
-    assert!(rt; finds(rt.alloc(), &nothing)?);
-    Ok(())
-}
-
-#[test]
-fn first_texts_in_a_group_of_order_two(rt: HostRuntime) -> Result<(), Fail> {
-    let empty = Row {
-        generators: 1,
-        relators: &[&[A, A]],
-        subgroup: &[],
-        goals: &[&[]],
-        number: 6,
-        text: &[Symbol::Cut],
-    };
-    assert!(rt; finds(rt.alloc(), &empty)?);
-    let square = Row {
-        generators: 1,
-        relators: &[&[A, A]],
-        subgroup: &[],
-        goals: &[&[A, A]],
-        number: 21,
-        text: &[RELATOR_1, Symbol::Cut],
-    };
-    assert!(rt; finds(rt.alloc(), &square)?);
-    Ok(())
-}
-
-#[test]
-fn first_texts_with_two_generators(rt: HostRuntime) -> Result<(), Fail> {
-    let conjugate = Row {
-        generators: 2,
-        relators: &[&[A, A]],
-        subgroup: &[],
-        goals: &[&[B, A, A, B_BACK]],
-        number: 1_310,
-        text: &[
-            Symbol::Letter(B),
-            RELATOR_1,
-            Symbol::Letter(B_BACK),
-            Symbol::Cut,
-        ],
-    };
-    assert!(rt; finds(rt.alloc(), &conjugate)?);
-    let symmetric = Row {
-        generators: 2,
-        relators: &[&[A, A], &[B, B, B], &[A, B, A, B]],
-        subgroup: &[&[B]],
-        goals: &[&[A, B, A]],
-        number: 1_691,
-        text: &[RELATOR_3, MEMBER_1_BACK, Symbol::Cut],
-    };
-    assert!(rt; finds(rt.alloc(), &symmetric)?);
-    Ok(())
-}
-
-#[test]
-fn the_first_text_of_two_goals(rt: HostRuntime) -> Result<(), Fail> {
-    let two_goals = Row {
-        generators: 1,
-        relators: &[&[A, A]],
-        subgroup: &[],
-        goals: &[&[A, A], &[A, A]],
-        number: 521,
-        text: &[RELATOR_1, Symbol::Cut, RELATOR_1, Symbol::Cut],
-    };
-    assert!(rt; finds(rt.alloc(), &two_goals)?);
+fn first_texts(rt: HostRuntime) -> Result<(), Fail> {
+    assert!(rt; finds(rt.alloc(), &NOTHING, 1, b"")?);
+    assert!(rt; finds(rt.alloc(), &ONE, 6, b";")?);
+    assert!(rt; finds(rt.alloc(), &SQUARE, 21, b"r;")?);
+    assert!(rt; finds(rt.alloc(), &TWO_SQUARES, 521, b"r;r;")?);
+    assert!(rt; finds(rt.alloc(), &CONJUGATE, 1_310, b"brB;")?);
+    assert!(rt; finds(rt.alloc(), &SYMMETRIC, 1_691, b"tH;")?);
     Ok(())
 }
 
@@ -263,71 +262,26 @@ fn an_ask_with_one_symbol_is_settled_by_cuts(rt: HostRuntime) -> Result<(), Fail
 
 #[test]
 fn turns_of_any_size_find_the_same(rt: HostRuntime) -> Result<(), Fail> {
-    let free = Row {
-        generators: 2,
-        relators: &[],
-        subgroup: &[&[A, A], &[A, B]],
-        goals: &[&[B_BACK, A]],
-        number: 703,
-        text: &[MEMBER_2_BACK, MEMBER_1, Symbol::Cut],
-    };
-    assert!(rt; finds_in_turns(rt.alloc(), &free, 1)?);
-    assert!(rt; finds_in_turns(rt.alloc(), &free, 7)?);
-    assert!(rt; finds_in_turns(rt.alloc(), &free, 1_000)?);
+    assert!(rt; finds_in_turns(rt.alloc(), 1, 702)?);
+    assert!(rt; finds_in_turns(rt.alloc(), 7, 100)?);
+    assert!(rt; finds_in_turns(rt.alloc(), 702, 1)?);
+    assert!(rt; finds_in_turns(rt.alloc(), 1_000, 0)?);
     Ok(())
 }
 
 #[test]
-fn a_letter_after_a_member_sign_is_refused(rt: HostRuntime) -> Result<(), Fail> {
-    let alloc = rt.alloc();
-    let ask = free_ask(alloc)?;
-    let text = Derivation::from_symbols(alloc, &[MEMBER_2_BACK, MEMBER_1, Symbol::Cut])?;
-    let mut buffers = Buffers::for_text(alloc, &ask, &text)?;
-    assert!(rt; accepts(&ask, &text, &mut buffers));
-    let symbols = [
-        MEMBER_2_BACK,
-        Symbol::Letter(A),
-        Symbol::Letter(A_BACK),
-        MEMBER_1,
-        Symbol::Cut,
-    ];
-    let text = Derivation::from_symbols(alloc, &symbols)?;
-    let mut buffers = Buffers::for_text(alloc, &ask, &text)?;
-    assert!(rt; !accepts(&ask, &text, &mut buffers));
+fn texts_are_accepted_or_refused(rt: HostRuntime) -> Result<(), Fail> {
+    assert!(rt; is_accepted(rt.alloc(), &FREE, b"Kh;")?);
+    assert!(rt; !is_accepted(rt.alloc(), &FREE, b"KaAh;")?);
+    assert!(rt; is_accepted(rt.alloc(), &CONJUGATE, b"baaBRbAABbrBr;")?);
+    assert!(rt; is_accepted_in_three(rt.alloc(), b"Kh;")?);
+    assert!(rt; !is_accepted_in_three(rt.alloc(), b"t;")?);
     Ok(())
 }
 
 #[test]
-fn texts_by_number(rt: HostRuntime) -> Result<(), Fail> {
-    let alloc = rt.alloc();
-    let ask = free_ask(alloc)?;
-    assert_eq!(rt; symbol_count(&ask), 9);
-    assert_eq!(rt; symbol_of(&ask, 8), MEMBER_2_BACK);
-    let mut text = Derivation::with_room(alloc, 4_096)?;
-    let mut digits = Digits::make(alloc)?;
-    symbols_at(&ask, 703, &mut text, &mut digits);
-    assert_eq!(rt;
-        text.symbols(),
-        [MEMBER_2_BACK, MEMBER_1, Symbol::Cut].as_slice()
-    );
-    assert_eq!(rt; text.copy(alloc)?.symbols(), text.symbols());
-    let mut buffers = Buffers::for_length(alloc, &ask, 3)?;
-    assert!(rt; accepts(&ask, &text, &mut buffers));
-    Ok(())
-}
-
-#[test]
-fn digits_of_symbols(rt: HostRuntime) -> Result<(), Fail> {
+fn texts_and_symbols_by_number(rt: HostRuntime) -> Result<(), Fail> {
+    assert!(rt; is_text_703(rt.alloc(), b"Kh;")?);
     assert!(rt; digit_comes_back(rt.alloc())?);
-    Ok(())
-}
-
-#[test]
-fn searches_go_on_where_they_stopped(rt: HostRuntime) -> Result<(), Fail> {
-    let mut search = Enumeration::start(rt.alloc(), free_ask(rt.alloc())?)?;
-    assert_eq!(rt; search.ask().goals().len(), 1);
-    assert_eq!(rt; search.advance(702), Advance::More);
-    assert_eq!(rt; search.cursor(), 702);
-    assert_eq!(rt; search.advance(1), Advance::Found { spent: 1 });
     Ok(())
 }

@@ -1,14 +1,13 @@
 //! A walk through the texts of an Ask in the order of their numbers. It reads them from the front, and where
 //! no text that begins with the symbols read is accepted, it passes over all of them at once.
-ghost use Rattle.std.specs.Prelude.{◌≡◌, ℕ, ◌+◌, ◌-◌, ◌^◌, ◌<◌, ◌≤◌, ◌↔◌, false, [], ◌∷◌, ◌++◌, List, length, map, drop, min, slice_index_or, IfOk, IsTrue};
-ghost use Rattle.std.specs.List.{AllByRecursion};
+ghost use Rattle.std.specs.Prelude.{◌≡◌, ◌+◌, ◌-◌, ◌^◌, ◌<◌, ◌≤◌, ◌↔◌, false, [], ◌∷◌, ◌++◌, List, length, map, drop, min, IfOk, IsTrue};
+ghost use Rattle.mg_numbers.specs.declared.blocks.TheConstants.{MOST_NUMBER};
 ghost use Rattle.mg_numbers.specs.Plain.{NoneAmong};
-ghost use Rattle.mg_present.specs.Ask.{IsAsked};
 ghost use Rattle.mg_words.specs.Word.{IsReduced};
 ghost use Rattle.mg_derive.specs.Acceptance.{AcceptedAt, IsAccepted, IsNumbered};
 ghost use Rattle.mg_derive.specs.Symbols.{IsSymbolOf, digit_of as value_of, symbol_count as count_of};
 ghost use Rattle.mg_derive.specs.Reading.{Runs, Leads, at_first, goal_after, ends_in_member as has_member_end, is_member as is_member_sign};
-ghost use Rattle.mg_derive.specs.Walk.{IsWalk, IsPlace, IsEquipped, IsShort, NoneFollow, WritesAtMost, NoneHere, InReach, first_at, standing_of, text_length};
+ghost use Rattle.mg_derive.specs.Walk.{IsWalk, IsPlace, IsEquipped, IsShort, WritesAtMost, NoneHere, InReach, first_at, standing_of, text_length};
 ghost use Rattle.mg_derive.specs.declared.symbol.Symbol.{Symbol as SymbolOf};
 ghost use Rattle.mg_derive.specs.declared.symbol.Symbol.TheVariants.{Cut};
 
@@ -23,7 +22,7 @@ use mg_words::{NoMemory, Word};
 use std::alloc::Global;
 
 // How many symbols a text has at most whose number is at most 2^62, and one more.
-const MOST_SYMBOLS: u32 = 63;
+const SEARCHED_SYMBOLS: u32 = 63;
 
 /// A walk through the texts of an Ask. It looks at the texts that begin with its text and the symbol with
 /// its digit, and that have `left` symbols more.
@@ -58,7 +57,7 @@ impl Walk {
     {
         let _goals = ask.goals();
         let text = Derivation::with_room(alloc, MOST_DIGITS)?;
-        let mut buffers = Buffers::for_length(alloc, ask, MOST_SYMBOLS)?;
+        let mut buffers = Buffers::for_length(alloc, ask, SEARCHED_SYMBOLS)?;
         buffers.letters.clear();
         buffers.written.clear();
         Ok(Walk {
@@ -81,7 +80,7 @@ impl Walk {
     /// the walk passes it, and with it texts after it of which none is accepted. It takes no memory.
     pub(crate) fn step(&mut self, ask: &Ask) -> bool
         requires walk { IsWalk ask.now self.old }
-        requires most { self.old.next ≤ 2 ^ 62 }
+        requires most { self.old.next ≤ MOST_NUMBER }
         ensures numbered { IsTrue result → IsNumbered ask.now self.new.text.symbols self.new.next }
         ensures accepted { IsTrue result → IsAccepted ask.now self.new.text.symbols }
         ensures stays { IsTrue result → self.new.next ≡ self.old.next }
@@ -101,7 +100,8 @@ impl Walk {
         requires place { IsPlace ask.now self.old }
         requires short { IsShort ask.now (text_length self.old) }
         ensures next { self.new.next ≡ self.old.next }
-        ensures numbered { IsTrue result → IsNumbered ask.now self.new.text.symbols (first_at ask.now self.old + 1) }
+        ensures numbered { IsTrue result →
+            IsNumbered ask.now self.new.text.symbols (first_at ask.now self.old + 1) }
         ensures accepted { IsTrue result → IsAccepted ask.now self.new.text.symbols }
         ensures place { result ≡ false → IsPlace ask.now self.new }
         ensures length { result ≡ false → text_length self.new ≡ text_length self.old }
@@ -131,8 +131,11 @@ impl Walk {
         ensures next { self.new.next ≡ self.old.next }
         ensures digit { self.new.digit ≡ self.old.digit }
         ensures left { self.new.left ≡ self.old.left }
-        ensures read { IsTrue result → map (value_of ask.now) self.new.text.symbols ≡ map (value_of ask.now) self.old.text.symbols ++ self.old.digit ∷ [] }
-        ensures whole { IsTrue result → self.old.left ≡ 0 → self.new.stand.goal ≡ length ask.now.goals }
+        ensures read { IsTrue result →
+            map (value_of ask.now) self.new.text.symbols ≡
+            map (value_of ask.now) self.old.text.symbols ++ self.old.digit ∷ [] }
+        ensures whole { IsTrue result → self.old.left ≡ 0 →
+            self.new.stand.goal ≡ length ask.now.goals }
         ensures same { result ≡ false → self.new.text.symbols ≡ self.old.text.symbols }
         ensures first { result ≡ false → first_at ask.now self.new ≡ first_at ask.now self.old }
         ensures refused { result ≡ false → NoneHere ask.now self.new }
@@ -169,8 +172,10 @@ impl Walk {
         requires letters { IsReduced self.now.letters.letters }
         requires written { IsReduced self.now.written.letters }
         ensures refused { result ≡ false → (rest : List SymbolOf) → length rest ≡ self.now.left →
-            Runs ask.now rest (drop self.now.stand.goal ask.now.goals) self.now.stand.members self.now.letters.letters self.now.written.letters → ⊥ }
-        ensures whole { IsTrue result → self.now.left ≡ 0 → self.now.stand.goal ≡ length ask.now.goals }
+            Runs ask.now rest (drop self.now.stand.goal ask.now.goals) self.now.stand.members
+            self.now.letters.letters self.now.written.letters → ⊥ }
+        ensures whole { IsTrue result → self.now.left ≡ 0 →
+            self.now.stand.goal ≡ length ask.now.goals }
     {
         let cuts = ask.goals().len() - self.stand.goal;
         let left = self.left as usize;
@@ -194,7 +199,7 @@ impl Walk {
     fn pass(&mut self, ask: &Ask)
         requires place { IsPlace ask.now self.old }
         requires short { IsShort ask.now (text_length self.old) }
-        requires most { self.old.next ≤ 2 ^ 62 }
+        requires most { self.old.next ≤ MOST_NUMBER }
         requires number { self.old.next ≡ first_at ask.now self.old + 1 }
         requires none { NoneAmong (AcceptedAt ask.now) 0 (self.old.next - 1) }
         requires refused { NoneHere ask.now self.old }
@@ -211,7 +216,8 @@ impl Walk {
         requires short { IsShort ask.now (text_length self.old) }
         ensures next { self.new.next ≡ self.old.next }
         ensures place { IsPlace ask.now self.new }
-        ensures first { first_at ask.now self.new ≡ first_at ask.now self.old + self.old.base ^ self.old.left }
+        ensures first { first_at ask.now self.new ≡
+            first_at ask.now self.old + self.old.base ^ self.old.left }
     {
         while self.digit == self.base {
             self.digit = self.leave(ask);
@@ -229,7 +235,9 @@ impl Walk {
         ensures next { self.new.next ≡ self.old.next }
         ensures left { self.new.left ≡ self.old.left }
         ensures reads { Leads ask.now self.new.text.symbols at_first (standing_of self.new) }
-        ensures digit { 1 ≤ result → map (value_of ask.now) self.old.text.symbols ≡ map (value_of ask.now) self.new.text.symbols ++ result ∷ [] }
+        ensures digit { 1 ≤ result →
+            map (value_of ask.now) self.old.text.symbols ≡
+            map (value_of ask.now) self.new.text.symbols ++ result ∷ [] }
         ensures none { result ≡ 0 → self.old.text.symbols ≡ [] }
         ensures empty { result ≡ 0 → self.new.text.symbols ≡ [] }
         ensures most { result ≤ count_of ask.now }
@@ -244,7 +252,8 @@ impl Walk {
     // gives its digit.
     fn unread(&mut self, ask: &Ask, symbol: Symbol) -> u32
         requires equipped { IsEquipped ask.now self.old }
-        requires reads { Leads ask.now (self.old.text.symbols ++ symbol ∷ []) at_first (standing_of self.old) }
+        requires reads { Leads ask.now (self.old.text.symbols ++
+            symbol ∷ []) at_first (standing_of self.old) }
         requires short { IsShort ask.now (length self.old.text.symbols + 1) }
         ensures equipped { IsEquipped ask.now self.new }
         ensures next { self.new.next ≡ self.old.next }

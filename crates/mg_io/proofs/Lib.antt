@@ -1,2 +1,2 @@
 -- Known: lemmas for this crate and for those that read and write whole
-pub mod Known
+mod Known

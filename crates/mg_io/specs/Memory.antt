@@ -11,6 +11,11 @@ pub record Store : Type 0 where
   pub calls : ℕ
   pub faults : ℕ
 
+-- a store that grows, with how many bytes it can hold with no memory
+pub record Growing : Type 0 where
+  pub store : Store
+  pub capacity : ℕ
+
 -- the store after a call that left these bytes
 abbrev pub moved : Store → List ℕ → Store
 moved store bytes = record store { bytes = bytes; calls = raised store.calls }

@@ -45,7 +45,8 @@ impl<R: Read> Source for InputSource<R> {
         ensures cause { HasCause self.old.faults self.new.faults result }
 
         // What the reader did is handed on.
-        ensures reader { ReadConsumes (R.remaining self.old.inner) (R.remaining self.new.inner) result buf.new }
+        ensures reader { ReadConsumes (R.remaining self.old.inner)
+            (R.remaining self.new.inner) result buf.new }
         ensures err { OnErr result (self.new.faults ≡ raised self.old.faults) }
     {
         match self.reader.read(buf) {
@@ -95,7 +96,8 @@ impl<W: Write> Sink for OutputSink<W> {
         ensures cause { HasCause self.old.faults self.new.faults result }
 
         // What the writer did is handed on.
-        ensures writer { IfOk result (λ n. Appends (W.contents self.old.inner) (W.contents self.new.inner) (take n piece.now)) }
+        ensures writer { IfOk result (λ n. Appends (W.contents self.old.inner)
+            (W.contents self.new.inner) (take n piece.now)) }
         ensures err { OnErr result (self.new.faults ≡ raised self.old.faults) }
     {
         match write_through(&mut self.writer, piece) {
@@ -111,7 +113,8 @@ impl<W: Write> Sink for OutputSink<W> {
 // Writes from the front of the piece and flushes; None at an error, and where nothing was taken.
 fn write_through<W: Write>(writer: &mut W, piece: &[u8]) -> Option<usize>
     ensures count { IfSome result (λ n. (0 < n) × (n ≤ length piece.now)) }
-    ensures bytes { IfSome result (λ n. Appends (W.contents writer.old) (W.contents writer.new) (take n piece.now)) }
+    ensures bytes { IfSome result (λ n. Appends (W.contents writer.old) (W.contents writer.new)
+        (take n piece.now)) }
 {
     match writer.write(piece) {
         Ok(0) | Err(_) => None,

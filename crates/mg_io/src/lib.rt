@@ -6,6 +6,7 @@
 mod adapters;
 mod copying;
 mod firm;
+mod limits;
 mod memory;
 mod outside;
 mod steps;
@@ -13,10 +14,11 @@ mod whole;
 
 pub use adapters::{InputSource, OutputSink};
 pub use firm::{FirmSink, FirmSource};
+pub use limits::the_limits;
 pub use memory::{MemorySink, MemorySource};
 pub use outside::{Failed, Sink, Source};
 pub use steps::Steps;
-pub use whole::{ReadRefused, WriteRefused, read_all, read_counted, write_all};
+pub use whole::{MOST_READ, ReadRefused, WriteRefused, read_all, read_counted, write_all};
 
 #[cfg(test)]
 mod tests;

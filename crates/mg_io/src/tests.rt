@@ -2,7 +2,7 @@ ghost use Rattle.std.specs.Prelude.{◌≡◌, ◌<◌};
 
 use super::*;
 use std::alloc::Global;
-use std::io::Cursor;
+use std::io::{self, Cursor, Write};
 use std::marker::Brand;
 use std::sync::ledger::{Blank, Ledger};
 use std::test::Fail;
@@ -87,6 +87,32 @@ fn a_writer_is_a_sink(rt: HostRuntime) -> Result<(), Fail> {
         write_all(&mut sink, TEXT),
         Err(WriteRefused::Fault { written: 10 })
     );
+    Ok(())
+}
+
+/// A writer that takes three bytes of each piece, and counts its flushes.
+#[derive(Drop)]
+struct Flushed {
+    flushes: u32,
+}
+
+impl Write for Flushed {
+    fn write(&mut self, buf: &[u8]) -> io::Result<usize> {
+        Ok(buf.len().min(3))
+    }
+
+    fn flush(&mut self) -> io::Result<()> {
+        self.flushes = self.flushes.saturating_add(1);
+        Ok(())
+    }
+}
+
+#[test]
+fn each_piece_is_flushed(rt: HostRuntime) -> Result<(), Fail> {
+    let mut writer = Flushed { flushes: 0 };
+    let mut sink = OutputSink::new(&mut writer);
+    assert_eq!(rt; write_all(&mut sink, TEXT), Ok(()));
+    assert_eq!(rt; writer.flushes, 5);
     Ok(())
 }
 

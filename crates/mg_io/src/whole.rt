@@ -13,6 +13,10 @@ use std::marker::Brand;
 use std::sync::ledger::{Blank, Ledger};
 use thiserror::Error;
 
+/// The greatest limit of bytes that may be set for reading.
+pub const MOST_READ: usize = 67_108_864;
+
+/// How many bytes are asked for at a call.
 const CHUNK: usize = 4096;
 
 /// Why a source wasn't read whole.
@@ -47,17 +51,20 @@ pub fn read_all<S: Source>(
     source: &mut S,
     limit: usize,
 ) -> Result<Vec<u8>, ReadRefused>
-    requires { limit ≤ 67108864 }
+    requires { limit ≤ MOST_READ }
 
-    ensures whole { IfOk result (λ bytes. ReadsWhole (S.left source.old) (S.left source.new) bytes.items) }
+    ensures whole { IfOk result (λ bytes. ReadsWhole (S.left source.old)
+        (S.left source.new) bytes.items) }
     ensures within { IfOk result (λ bytes. length bytes.items ≤ limit) }
 
-    ensures fault { result ≡ Err ReadRefused.Fault → Rose (S.faults source.old) (S.faults source.new) }
+    ensures fault { result ≡ Err ReadRefused.Fault →
+        Rose (S.faults source.old) (S.faults source.new) }
     ensures quiet { result ≢ Err ReadRefused.Fault → S.faults source.new ≡ S.faults source.old }
     ensures later { S.faults source.old ≤ S.faults source.new }
 
     ensures too_long { result ≡ Err ReadRefused.TooLong →
-        IfSome (S.left source.old) (λ all. (limit < length all) × (S.left source.new ≡ Some (drop (limit + 1) all))) }
+        IfSome (S.left source.old) (λ all. (limit < length all) ×
+        (S.left source.new ≡ Some (drop (limit + 1) all))) }
     ensures lost { LosesUpTo (S.left source.old) (S.left source.new) (limit + 1) }
 {
     read_with::<S, Brand>(alloc, source, limit, Blank::new(1))
@@ -71,17 +78,20 @@ pub fn read_counted<S: Source, L: Ledger>(
     limit: usize,
     steps: &mut Steps<L>,
 ) -> Result<Vec<u8>, ReadRefused>
-    requires { limit ≤ 67108864 }
+    requires { limit ≤ MOST_READ }
 
-    ensures whole { IfOk result (λ bytes. ReadsWhole (S.left source.old) (S.left source.new) bytes.items) }
+    ensures whole { IfOk result (λ bytes. ReadsWhole (S.left source.old)
+        (S.left source.new) bytes.items) }
     ensures within { IfOk result (λ bytes. length bytes.items ≤ limit) }
 
-    ensures fault { result ≡ Err ReadRefused.Fault → Rose (S.faults source.old) (S.faults source.new) }
+    ensures fault { result ≡ Err ReadRefused.Fault →
+        Rose (S.faults source.old) (S.faults source.new) }
     ensures quiet { result ≢ Err ReadRefused.Fault → S.faults source.new ≡ S.faults source.old }
     ensures later { S.faults source.old ≤ S.faults source.new }
 
     ensures too_long { result ≡ Err ReadRefused.TooLong →
-        IfSome (S.left source.old) (λ all. (limit < length all) × (S.left source.new ≡ Some (drop (limit + 1) all))) }
+        IfSome (S.left source.old) (λ all. (limit < length all) ×
+        (S.left source.new ≡ Some (drop (limit + 1) all))) }
     ensures lost { LosesUpTo (S.left source.old) (S.left source.new) (limit + 1) }
 
     ensures cost { (steps.old < steps.new) × (steps.new ≤ steps.old + (limit + 1)) }
@@ -97,16 +107,19 @@ fn read_with<S: Source, L: Ledger>(
     limit: usize,
     blank: Blank,
 ) -> Result<Vec<u8>, ReadRefused>
-    requires limit { limit ≤ 67108864 }
+    requires limit { limit ≤ MOST_READ }
     requires blank { (blank.name ≡ L.name) × (blank.parts ≡ L.parts) × (0 < L.parts) }
 
-    ensures whole { IfOk result (λ bytes. ReadsWhole (S.left source.old) (S.left source.new) bytes.items) }
+    ensures whole { IfOk result (λ bytes. ReadsWhole (S.left source.old)
+        (S.left source.new) bytes.items) }
     ensures within { IfOk result (λ bytes. length bytes.items ≤ limit) }
-    ensures fault { result ≡ Err ReadRefused.Fault → Rose (S.faults source.old) (S.faults source.new) }
+    ensures fault { result ≡ Err ReadRefused.Fault →
+        Rose (S.faults source.old) (S.faults source.new) }
     ensures quiet { result ≢ Err ReadRefused.Fault → S.faults source.new ≡ S.faults source.old }
     ensures later { S.faults source.old ≤ S.faults source.new }
     ensures too_long { result ≡ Err ReadRefused.TooLong →
-        IfSome (S.left source.old) (λ all. (limit < length all) × (S.left source.new ≡ Some (drop (limit + 1) all))) }
+        IfSome (S.left source.old) (λ all. (limit < length all) ×
+        (S.left source.new ≡ Some (drop (limit + 1) all))) }
     ensures lost { LosesUpTo (S.left source.old) (S.left source.new) (limit + 1) }
 {
     let mut steps: Steps<L> = Steps::new(blank);
@@ -123,13 +136,16 @@ fn read_by_chunks<S: Source, L: Ledger>(
 ) -> Result<Vec<u8>, ReadRefused>
     requires { 0 < length chunk.old }
 
-    ensures whole { IfOk result (λ bytes. ReadsWhole (S.left source.old) (S.left source.new) bytes.items) }
+    ensures whole { IfOk result (λ bytes. ReadsWhole (S.left source.old)
+        (S.left source.new) bytes.items) }
     ensures within { IfOk result (λ bytes. length bytes.items ≤ limit) }
-    ensures fault { result ≡ Err ReadRefused.Fault → Rose (S.faults source.old) (S.faults source.new) }
+    ensures fault { result ≡ Err ReadRefused.Fault →
+        Rose (S.faults source.old) (S.faults source.new) }
     ensures quiet { result ≢ Err ReadRefused.Fault → S.faults source.new ≡ S.faults source.old }
     ensures later { S.faults source.old ≤ S.faults source.new }
     ensures too_long { result ≡ Err ReadRefused.TooLong →
-        IfSome (S.left source.old) (λ all. (limit < length all) × (S.left source.new ≡ Some (drop (limit + 1) all))) }
+        IfSome (S.left source.old) (λ all. (limit < length all) ×
+        (S.left source.new ≡ Some (drop (limit + 1) all))) }
     ensures lost { LosesUpTo (S.left source.old) (S.left source.new) (limit + 1) }
     ensures cost { (steps.old < steps.new) × (steps.new ≤ steps.old + (limit + 1)) }
 {

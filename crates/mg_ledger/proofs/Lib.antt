@@ -1,1 +1,1 @@
-pub mod Balances
+mod Balances

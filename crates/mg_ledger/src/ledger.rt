@@ -93,7 +93,8 @@ impl Ledger {
     pub fn fund(&mut self, n: u64) -> Result<(), FundRefused>
         ensures step { Step self.old (Fund n) self.new }
         ensures ok { OnOk result (self.old.funded + n ≤ MOST_FUNDED) }
-        ensures refused { IfErr result (λ e. (MOST_FUNDED < self.old.funded + n) × (e.funded ≡ self.old.funded)) }
+        ensures refused { IfErr result (λ e. (MOST_FUNDED < self.old.funded + n) ×
+            (e.funded ≡ self.old.funded)) }
         ensures err { OnErr result (self.new ≡ self.old) }
     {
         if n > MOST_FUNDED - self.funded {
@@ -182,7 +183,8 @@ impl Ledger {
 /// Whatever calls come, each account is balanced after them, and every unit funded is in the
 /// purse, held or spent.
 pub fn every_run_balances()
-    ensures { (calls : List Call) (end : LedgerState) → Run no_cells calls end → HasBalance end.funded end.purse end.cells }
+    ensures { (calls : List Call) (end : LedgerState) → Run no_cells calls end →
+        HasBalance end.funded end.purse end.cells }
 {}
 
 #[cfg(test)]

@@ -4,8 +4,10 @@
 #![tactic(auto)]
 
 mod ledger;
+mod limits;
 
 pub use ledger::{
     Account, FundRefused, GrantRefused, Ledger, MOST_FUNDED, MOST_GRANTED, NoMemory,
     every_run_balances,
 };
+pub use limits::the_limits;

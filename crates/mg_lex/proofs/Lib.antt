@@ -1,8 +1,9 @@
-pub mod Classes
+mod Classes
 mod Keywords
-pub mod Numbers
-pub mod Words
+mod Numbers
+mod Words
 pub mod Cuts
 pub mod Firsts
 mod Steps
 mod Lines
+pub mod Total

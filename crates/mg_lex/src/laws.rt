@@ -1,10 +1,11 @@
 //! Laws about tokens and refusals. The functions do nothing; their clauses are the laws.
 
-ghost use Rattle.std.specs.Prelude.{◌≡◌, ℕ, List};
+ghost use Rattle.std.specs.Prelude.{◌≡◌, ◌^◌, ℕ, List};
 ghost use Rattle.mg_lex.specs.Token.{IsToken};
 ghost use Rattle.mg_lex.specs.Line.{AreTokens, Cuts};
 ghost use Rattle.mg_lex.specs.Cause.{AreTokensBefore, IsFirstCause};
 
+use crate::limits::{LINE_LIMIT, NAME_LIMIT, NUMBER_LIMIT};
 use crate::refusal::Cause;
 use crate::token::{Token, TokenKind};
 
@@ -17,11 +18,19 @@ pub fn one_kind()
 pub fn one_reading()
     ensures cut { (line : List ℕ) (ts us : List Token) (place : ℕ) →
         Cuts line 0 ts place → Cuts line 0 us place → ts ≡ us }
-    ensures whole { (line : List ℕ) (ts us : List Token) → AreTokens line ts → AreTokens line us → ts ≡ us }
+    ensures whole { (line : List ℕ) (ts us : List Token) → AreTokens line ts → AreTokens line us →
+        ts ≡ us }
 {}
 
 /// A line has one first cause, at one place.
 pub fn one_refusal()
     ensures { (line : List ℕ) (p q : ℕ) (c d : Cause) →
         IsFirstCause line p c → IsFirstCause line q d → (p ≡ q) × (c ≡ d) }
+{}
+
+/// The limits of lines and tokens by their values.
+pub fn the_limits()
+    ensures line { LINE_LIMIT ≡ 65536 }
+    ensures name { NAME_LIMIT ≡ 32 }
+    ensures number { NUMBER_LIMIT ≡ 2 ^ 62 }
 {}

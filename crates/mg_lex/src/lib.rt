@@ -15,7 +15,7 @@ mod token;
 mod word;
 
 pub use keyword::{Keyword, keyword_of};
-pub use laws::{one_kind, one_reading, one_refusal};
+pub use laws::{one_kind, one_reading, one_refusal, the_limits};
 pub use limits::{LINE_LIMIT, NAME_LIMIT, NUMBER_LIMIT};
 pub use line::{FirstFault, Lexed, lex, tokens};
 pub use mark::{Mark, mark_of};

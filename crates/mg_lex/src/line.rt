@@ -86,7 +86,8 @@ pub fn tokens(alloc: Global, line: &[u8], number: u32) -> Result<Tokens, LexRefu
     requires { length line.now < 2 ^ 32 - 1 }
     ensures tokens { IfOk result (AreTokens line.now) }
     ensures faultless { OnOk result (IsFaultless line.now) }
-    ensures refused { (r : Refused) → result ≡ Err (LexRefused.Refused r) → IsRefusal line.now number r }
+    ensures refused { (r : Refused) → result ≡ Err (LexRefused.Refused r) →
+        IsRefusal line.now number r }
 {
     let Ok(lexed) = lex(alloc, line, number) else {
         return Err(LexRefused::NoMemory);

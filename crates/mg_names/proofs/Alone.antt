@@ -3,7 +3,8 @@ use Rattle.std.proofs.Common.{◌≡◌, ℕ, ℤ, Bool, true, false, not, Resul
 use Rattle.mg_terms.specs.declared.lexeme.Lexeme.{Lexeme}
 use Rattle.mg_words.specs.Word.{Held, IsOver, IsReduced}
 use Rattle.mg_words.specs.Chain.{FreelyEqual}
-use Rattle.mg_words.proofs.Free.{free_form, free_form-reduced, same_form}
+use Rattle.mg_words.specs.Reduction.{free_form}
+use Rattle.mg_words.proofs.Free.{free_form-reduced, same_form}
 use Rattle.mg_names.specs.declared.home.Home.{Home}
 use Rattle.mg_names.specs.Named.{Named, named, one, round, commutator, Factor, bare, power, Word, single, times, word_names}
 use Rattle.mg_names.specs.Scope.{Declared}

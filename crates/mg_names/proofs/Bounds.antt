@@ -8,7 +8,8 @@ use Rattle.std.proofs.lemmas.Bool.Decides.{Decides-eqb}
 use Rattle.mg_terms.specs.Word.{base_letters, factor_letters, word_letters}
 use Rattle.mg_words.specs.Word.{IsOver, inv, commutator_of, power_of}
 use Rattle.mg_words.proofs.Chains.{IsOver-append, IsOver-inv, IsOver-power_of, IsOver-commutator_of, length-inv, length-power_of}
-use Rattle.mg_words.proofs.Free.{free_form, IsReduced-free_form, IsOver-free_form, free_form-length, reduced_from_apart}
+use Rattle.mg_words.specs.Reduction.{free_form}
+use Rattle.mg_words.proofs.Free.{IsReduced-free_form, IsOver-free_form, free_form-length, reduced_from_apart}
 use Rattle.mg_script.specs.Count.{IsBoundedTerm}
 use Rattle.mg_questions.specs.Asking.{IsGiven}
 use Rattle.mg_names.specs.Plan.{Plan, PlanGroup}

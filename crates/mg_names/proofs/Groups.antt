@@ -10,7 +10,8 @@ use Rattle.mg_terms.specs.declared.lexeme.Lexeme.TheVariants as lexeme
 use Rattle.mg_words.specs.Word.{Held, inv, IsOver, IsReduced}
 use Rattle.mg_words.specs.Chain.{FreelyEqual}
 use Rattle.mg_words.proofs.Chains.{IsOver-append, IsOver-inv}
-use Rattle.mg_words.proofs.Free.{free_form, free_form-reduced, same_form}
+use Rattle.mg_words.specs.Reduction.{free_form}
+use Rattle.mg_words.proofs.Free.{free_form-reduced, same_form}
 use Rattle.mg_script.specs.Count.{IsBoundedTerm}
 use Rattle.mg_names.specs.declared.home.Home.{Home}
 use Rattle.mg_names.specs.declared.grouping.Parts.{Parts}

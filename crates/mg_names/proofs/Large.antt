@@ -6,9 +6,9 @@ use Rattle.std.proofs.lemmas.List.{length-append, length-map}
 use Rattle.std.proofs.lemmas.Bool.{ltb-false, ltb-true, lt-ltb}
 use Rattle.mg_lex.specs.declared.refusal.Cause.TheVariants as cause
 use Rattle.mg_words.specs.Word.{IsOver, inv}
-use Rattle.mg_words.specs.Reduction.{IsFormOf}
+use Rattle.mg_words.specs.Reduction.{IsFormOf, free_form}
 use Rattle.mg_words.proofs.Chains.{length-inv}
-use Rattle.mg_words.proofs.Free.{free_form, free_form-reduced, same_form}
+use Rattle.mg_words.proofs.Free.{free_form-reduced, same_form}
 use Rattle.mg_present.specs.declared.ask.TheConstants.{MOST_GOALS}
 use Rattle.mg_present.specs.Presentation.{Group, IsPresented}
 use Rattle.mg_present.specs.Ask.{Inquiry}

@@ -1,34 +1,34 @@
-pub mod Alone
-pub mod Askings
+mod Alone
+mod Askings
 pub mod Asks
-pub mod Bounds
-pub mod Causes
-pub mod Declarations
-pub mod Grants
-pub mod Groups
-pub mod Leasts
-pub mod Led
-pub mod Lengths
+mod Bounds
+mod Causes
+mod Declarations
+mod Grants
+mod Groups
+mod Leasts
+mod Led
+mod Lengths
 pub mod Lines
-pub mod Lookups
-pub mod Mappings
-pub mod Members
-pub mod NameKinds
-pub mod Pairs
-pub mod Parts
-pub mod Places
+mod Lookups
+mod Mappings
+mod Members
+mod NameKinds
+mod Pairs
+mod Parts
+mod Places
 pub mod Plans
-pub mod Reading
-pub mod Readings
+mod Reading
+mod Readings
 pub mod Refusals
-pub mod Scopes
-pub mod Signs
-pub mod Skips
-pub mod Large
-pub mod Tails
-pub mod Tokens
-pub mod Trees
-pub mod Turns
-pub mod WordLists
-pub mod Adding
-pub mod Adds
+mod Scopes
+mod Signs
+mod Skips
+mod Large
+mod Tails
+mod Tokens
+mod Trees
+mod Turns
+mod WordLists
+mod Adding
+mod Adds

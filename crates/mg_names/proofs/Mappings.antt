@@ -20,7 +20,7 @@ use Rattle.mg_names.specs.Asked.{IsHome}
 use Rattle.mg_names.specs.Cause.{Shown, at, in_word, in_mapping, is_among, has_all, lefts, last_place, missing, not_a_group, not_a_letter, of_group, shown, taken_if, twice, twice_behind}
 use Rattle.mg_names.specs.Keeping.{Keeps, IsSound}
 use Rattle.mg_names.specs.Least.{IsLeastOf, Gets}
-use Rattle.mg_names.specs.Mapped.{value_at, causes_at, closing, arrows_signs, further_signs, IsArrowAhead, IsOneRead, AreRead, IsHomeOf, Stands, IsMap, IsMapOf}
+use Rattle.mg_names.specs.Mapped.{value_at, causes_at, closing, arrows_signs, further_signs, IsArrowAhead, IsOneRead, AreRead, IsHomeOf, NamesGroup, IsMap, IsMapOf}
 use Rattle.mg_names.specs.Meaning.{after, declares_map, declaring, group_at, image_of_generator, images, texts, value, value_or_none}
 use Rattle.mg_names.specs.Name.{named_of}
 use Rattle.mg_names.specs.Plan.{Plan}
@@ -323,14 +323,14 @@ outside scope f (Some (a_subgroup k ws)) other = refl
 outside scope f (Some (a_map j k ws)) other = refl
 outside scope f (Some (a_question k)) other = refl
 
-pub stands : (found : Option Object) (o : Option ℕ) → IfSome o (λ place. found ≡ Some (a_group place)) → IfNone o ((place : ℕ) → found ≢ Some (a_group place)) → Stands found o
+pub stands : (found : Option Object) (o : Option ℕ) → IfSome o (λ place. found ≡ Some (a_group place)) → IfNone o ((place : ℕ) → found ≢ Some (a_group place)) → NamesGroup found o
 stands found None some none = none
 stands found (Some place) some none = some
 
-pub stands_in : (scope : Scope) (ds : List Declared) (text : List ℕ) (o : Option ℕ) → ds ≡ scope.names → Stands (lookup ds text) o → Stands (lookup scope.names text) o
-stands_in scope ds text o e h = subst (λ (xs : List Declared). Stands (lookup xs text) o) e h
+pub stands_in : (scope : Scope) (ds : List Declared) (text : List ℕ) (o : Option ℕ) → ds ≡ scope.names → NamesGroup (lookup ds text) o → NamesGroup (lookup scope.names text) o
+stands_in scope ds text o e h = subst (λ (xs : List Declared). NamesGroup (lookup xs text) o) e h
 
-pub group_within : (r : Resolver) → IsSound r → (text : List ℕ) (o : Option ℕ) → Stands (lookup r.names text) o → IfSome o (λ place. place < length r.plan.groups)
+pub group_within : (r : Resolver) → IsSound r → (text : List ℕ) (o : Option ℕ) → NamesGroup (lookup r.names text) o → IfSome o (λ place. place < length r.plan.groups)
 group_within r sound text None h = tt
 group_within r sound text (Some place) h =
     let g = name_object sound.lines sound.scope sound.within text (a_group place) (subst (λ (ds : List Declared). lookup ds text ≡ Some (a_group place)) sound.keeps.names h) in
@@ -358,7 +358,7 @@ home_values scope place home all is =
 abbrev in_target : Scope → List Arrow → Option Object → List Shown
 in_target scope all to = of_group scope (λ place generators. flat_map (λ a. in_word scope.names place generators a.image) all) to
 
-words_shown : (scope : Scope) (to : Option Object) (t : Option ℕ) (home : Option Home) (all : List Arrow) → IsHomeOf scope t home → Stands to t → flat_map (λ (a : Arrow). causes_at home a.image) all ≡ in_target scope all to
+words_shown : (scope : Scope) (to : Option Object) (t : Option ℕ) (home : Option Home) (all : List Arrow) → IsHomeOf scope t home → NamesGroup to t → flat_map (λ (a : Arrow). causes_at home a.image) all ≡ in_target scope all to
 words_shown scope to (Some place) (Some home) all is h = home_shown scope place home all is ∙ ap (in_target scope all) (sym h)
 words_shown scope to None None all is h = none_shown all ∙ sym (outside scope (λ place generators. flat_map (λ a. in_word scope.names place generators a.image) all) to h)
 words_shown scope to (Some place) None all is h = absurd is
@@ -375,7 +375,7 @@ abbrev pub left_causes : List Declared → List (List ℕ) → ℕ → List Name
 left_causes ds gs close names = flat_map (not_a_letter ds gs) names ++ (twice names ++ missing (texts names) close gs)
 
 -- where the source is known
-pub known_source : (scope : Scope) (line : ScriptLine) (all : List Arrow) (from to : Option Object) (s t : Option ℕ) (source : Home) (target : Option Home) (names : List Named) (close : ℕ) (o p q : Option Shown) → Stands from s → IsHomeOf scope s (Some source) → Stands to t
+pub known_source : (scope : Scope) (line : ScriptLine) (all : List Arrow) (from to : Option Object) (s t : Option ℕ) (source : Home) (target : Option Home) (names : List Named) (close : ℕ) (o p q : Option Shown) → NamesGroup from s → IsHomeOf scope s (Some source) → NamesGroup to t
     → IsHomeOf scope t target → names ≡ lefts all → close ≡ last_place line.tokens → Gets (flat_map (λ (a : Arrow). causes_at target a.image) all) o p → Gets (left_causes source.names.now source.generators.now close names) p q
     → Gets (in_mapping scope line all from to) o q
 known_source scope line all from to None t source target names close o p q stand is h k e last words lefts_shown = absurd is
@@ -397,7 +397,7 @@ known_source scope line all from to (Some s) t source target names close o p q s
     both
 
 -- where it isn't
-pub unknown_source : (scope : Scope) (line : ScriptLine) (all : List Arrow) (from to : Option Object) (s t : Option ℕ) (target : Option Home) (names : List Named) (o p q : Option Shown) → Stands from s → IsHomeOf scope s None → Stands to t
+pub unknown_source : (scope : Scope) (line : ScriptLine) (all : List Arrow) (from to : Option Object) (s t : Option ℕ) (target : Option Home) (names : List Named) (o p q : Option Shown) → NamesGroup from s → IsHomeOf scope s None → NamesGroup to t
     → IsHomeOf scope t target → names ≡ lefts all → Gets (flat_map (λ (a : Arrow). causes_at target a.image) all) o p → Gets (twice names) p q → Gets (in_mapping scope line all from to) o q
 unknown_source scope line all from to (Some s) t target names o p q stand is h k e words left = absurd is
 unknown_source scope line all from to None t target names o p q stand is h k e words left =
@@ -436,8 +436,8 @@ abbrev pub map_causes : Scope → ScriptLine → List Arrow → Named → Named 
 map_causes scope line all a b =
     not_a_group a (lookup scope.names a.text) ++ (not_a_group b (lookup scope.names b.text) ++ in_mapping scope line all (lookup scope.names a.text) (lookup scope.names b.text))
 
-pub map_shown : (scope : Scope) (r : Resolver) (line : ScriptLine) (all : List Arrow) (a b : Named) (s t : Option ℕ) (o p q v : Option Shown) → Keeps scope r → Stands (lookup r.names a.text) s → Stands (lookup r.names b.text) t
-    → Gets (not_a_group a (lookup r.names a.text)) o p → Gets (not_a_group b (lookup r.names b.text)) p q → ((from to : Option Object) → Stands from s → Stands to t → Gets (in_mapping scope line all from to) q v)
+pub map_shown : (scope : Scope) (r : Resolver) (line : ScriptLine) (all : List Arrow) (a b : Named) (s t : Option ℕ) (o p q v : Option Shown) → Keeps scope r → NamesGroup (lookup r.names a.text) s → NamesGroup (lookup r.names b.text) t
+    → Gets (not_a_group a (lookup r.names a.text)) o p → Gets (not_a_group b (lookup r.names b.text)) p q → ((from to : Option Object) → NamesGroup from s → NamesGroup to t → Gets (in_mapping scope line all from to) q v)
     → Gets (map_causes scope line all a b) o v
 map_shown scope r line all a b s t o p q v keeps sa sb ga gb rest =
     let from : Option Object = lookup scope.names a.text in

@@ -8,7 +8,7 @@ use Rattle.mg_terms.specs.declared.lexeme.Lexeme.TheVariants as lexeme
 use Rattle.mg_terms.specs.Word.{base_letters}
 use Rattle.mg_words.specs.Word.{Held, times as repeated, power_of, commutator_of}
 use Rattle.mg_words.specs.declared.operations.WordFault.{WordFault}
-use Rattle.mg_words.specs.declared.operations.TheConstants.{MOST_POWER_LETTERS}
+use Rattle.mg_words.specs.declared.limits.TheConstants.{MOST_POWER_LETTERS}
 use Rattle.mg_names.specs.declared.home.Home.{Home}
 use Rattle.mg_names.specs.declared.words.Exponent.{Exponent}
 use Rattle.mg_names.specs.Named.{Named, Base, named, one, round, commutator, Factor, bare, power, Word, base_names, factor_names, word_names, plain_base}

@@ -2,15 +2,17 @@
 use Rattle.std.proofs.Common.{◌≡◌, ℕ, zero, suc, ℤ, ◌+◌, ◌-◌, ◌^◌, ◌<◌, ◌≤◌, Some, List, [], ◌∷◌, map, length, refl, sym, ap, subst, ◌∙◌, arith}
 use Rattle.std.specs.Prelude.{slice_get, ◌↔◌}
 use Rattle.std.specs.List.{AllByRecursion, AllZip}
-use Rattle.mg_words.proofs.Free.{free_form, IsReduced-free_form, IsOver-free_form, free_form-freely}
-use Rattle.mg_words.specs.Reduction.{IsFormOf}
-use Rattle.mg_present.specs.Ask.{Inquiry}
+use Rattle.mg_words.specs.Reduction.{free_form, IsFormOf}
+use Rattle.mg_words.proofs.Free.{IsReduced-free_form, IsOver-free_form, free_form-freely}
+use Rattle.mg_present.specs.Presentation.{IsPresented}
+use Rattle.mg_present.specs.Ask.{Inquiry, IsAsked}
 use Rattle.mg_present.specs.Same.{Holds}
 use Rattle.mg_questions.specs.declared.question.Question.{Question}
-use Rattle.mg_questions.specs.Goals.{goals_of}
+use Rattle.mg_questions.specs.Goals.{group_of, subgroup_of, goals_of}
 use Rattle.mg_questions.specs.Asking.{IsAskOf, IsFit}
 use Rattle.mg_questions.specs.Meaning.{Meaning}
 use Rattle.mg_questions.proofs.Agreement.{agree}
+use Rattle.mg_questions.proofs.Asked.{can_ask}
 use Rattle.mg_script.specs.declared.script.ScriptLine.{ScriptLine}
 use Rattle.mg_script.specs.Script.{IsScript}
 use Rattle.mg_names.specs.declared.plan.TheConstants.{MOST_STEPS}
@@ -92,3 +94,17 @@ question_means bytes script scope place question ask is means there asked =
     let h = question_asks bytes script scope place question is means there in
     let same : h.0 ≡ ask = asks_once scope.plan place h.0 ask h.1 asked in
     subst (λ (a : Inquiry). Meaning question ↔ Holds a) same (agree question h.0 h.3 h.2)
+
+-- the Ask of a question of a plan is an Ask
+pub question_is_asked : (bytes : List ℕ) (script : List ScriptLine) (scope : Scope) (place : ℕ) (question : Question) (ask : Inquiry) → IsScript bytes script → Means script scope
+    → slice_get scope.questions place ≡ Some question → AskOf scope.plan place ask → IsAsked ask
+question_is_asked bytes script scope place question ask is means there asked =
+    let within = means_within script scope (all_read bytes script is) means in
+    let z = zip_back (AsksFor scope.plan) scope.plan.questions scope.questions place question within.questions there in
+    let asks : AsksFor scope.plan z.0 question = z.2 in
+    let presented : IsPresented asks.group.group = (all_get IsPlanGroup scope.plan.groups z.0.group asks.group within.groups asks.there).presented in
+    let made : IsAsked (ask_for question) = record {
+      group = subst IsPresented asks.same presented;
+      words = can_ask question (group_of question) (subgroup_of question) (map free_form (goals_of question)) asks.fit asks.allowed refl refl (forms_of (goals_of question));
+    } in
+    subst IsAsked (asks_once scope.plan place (ask_for question) ask (z.0, z.1, asks.asked) asked) made

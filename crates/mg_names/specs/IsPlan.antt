@@ -1,6 +1,7 @@
 -- What holds of the plans that scripts mean.
-use Rattle.std.specs.Prelude.{◌≡◌, ℕ, ◌^◌, ◌≤◌, Some, IfSome, List, length, Contains, slice_get}
+use Rattle.std.specs.Prelude.{◌≡◌, ℕ, ◌≤◌, Some, IfSome, List, length, Contains, slice_get}
 use Rattle.std.specs.List.{AllByRecursion}
+use Rattle.mg_lex.specs.declared.limits.TheConstants.{NUMBER_LIMIT}
 use Rattle.mg_words.specs.declared.procedure.Procedure.{Procedure}
 use Rattle.mg_present.specs.Ask.{Inquiry}
 use Rattle.mg_names.specs.declared.plan.TheConstants.{MOST_SEARCHES, MOST_STEPS}
@@ -21,11 +22,11 @@ pub record CanBeAsked (plan : Plan) (question : ℕ) (procedure : Procedure) : T
   pub asked : AskOf plan question ask
   pub applies : Applies procedure ask
 
--- the step names what is there, and at most 2^62 units
+-- the step names what is there, and no more units than a number of a script
 abbrev pub IsStep : Plan → Step → Type 0
-IsStep plan (fund units) = units ≤ 2 ^ 62
-IsStep plan (grant question procedure units) = CanBeAsked plan question procedure × (units ≤ 2 ^ 62)
-IsStep plan (run bound) = IfSome bound (λ units. units ≤ 2 ^ 62)
+IsStep plan (fund units) = units ≤ NUMBER_LIMIT
+IsStep plan (grant question procedure units) = CanBeAsked plan question procedure × (units ≤ NUMBER_LIMIT)
+IsStep plan (run bound) = IfSome bound (λ units. units ≤ NUMBER_LIMIT)
 IsStep plan (cancel question procedure) = CanBeAsked plan question procedure
 IsStep plan (report questions) = questions ≤ length plan.questions
 IsStep plan report_facts = Unit {0}

@@ -82,9 +82,9 @@ IsHomeOf scope None None = Unit {0}
 IsHomeOf scope _ _ = ⊥
 
 -- the group that an object is, if it is one
-abbrev pub Stands : Option Object → Option ℕ → Type 0
-Stands found (Some place) = found ≡ Some (a_group place)
-Stands found None = (place : ℕ) → found ≢ Some (a_group place)
+abbrev pub NamesGroup : Option Object → Option ℕ → Type 0
+NamesGroup found (Some place) = found ≡ Some (a_group place)
+NamesGroup found None = (place : ℕ) → found ≢ Some (a_group place)
 
 -- both names stand for groups, and this is the map
 pub record IsMap (scope : Scope) (all : List Arrow) (a b : Named) (o : declared.Object) : Type 0 where

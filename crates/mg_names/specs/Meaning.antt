@@ -3,7 +3,7 @@ use Rattle.std.specs.Prelude.{ℕ, ℤ, pos, neg_ℤ, ◌+◌, ◌==◌, ◌&&�
 use Rattle.mg_words.specs.declared.procedure.Procedure.{Procedure}
 use Rattle.mg_words.specs.declared.procedure.Procedure.TheVariants as procedure
 use Rattle.mg_words.specs.Word.{Held, inv, power_of, commutator_of}
-use Rattle.mg_words.proofs.Free.{free_form}
+use Rattle.mg_words.specs.Reduction.{free_form}
 use Rattle.mg_present.specs.Ask.{Inquiry}
 use Rattle.mg_questions.specs.declared.question.Question as questions
 use Rattle.mg_questions.specs.declared.question.Question.TheVariants as asked

@@ -7,7 +7,7 @@ use Rattle.mg_terms.specs.Word.{base_letters}
 use Rattle.mg_words.specs.Word.{Held}
 use Rattle.mg_words.specs.declared.operations.WordFault.{WordFault}
 use Rattle.mg_words.specs.declared.operations.WordFault.TheVariants as fault
-use Rattle.mg_words.specs.declared.operations.TheConstants.{MOST_POWER_LETTERS}
+use Rattle.mg_words.specs.declared.limits.TheConstants.{MOST_POWER_LETTERS}
 use Rattle.mg_script.specs.Count.{IsBoundedTerm}
 use Rattle.mg_names.specs.declared.home.Home.{Home}
 use Rattle.mg_names.specs.Named.{Named, Base, named, one, round, commutator, Factor, bare, power, Word, single, times, plain_base, plain_word}

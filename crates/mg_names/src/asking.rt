@@ -74,7 +74,8 @@ pub(crate) fn read_question(
 ) -> Result<Option<Asking>, NoMemory>
     requires known { AreWithin known.now }
     requires ahead { IsQuestionAhead cursor.old }
-    ensures { (scope : Scope) (q : QuestionTree) → IsKnown scope known.now → cursor.old ≡ question_signs q →
+    ensures { (scope : Scope) (q : QuestionTree) → IsKnown scope known.now →
+        cursor.old ≡ question_signs q →
         IfOk result (λ a. IsQuestionRead scope q found.old found.new a) }
 {
     match form_next(cursor) {
@@ -94,8 +95,10 @@ fn equality(
     found: &mut Found,
 ) -> Result<Option<Asking>, NoMemory>
     requires known { AreWithin known.now }
-    requires ahead { (u v : WordTree) × (g : Named) × (cursor.old ≡ question_signs (equal u v g)) × IsSizedQuestion (equal u v g) }
-    ensures { (scope : Scope) (u v : WordTree) (g : Named) → IsKnown scope known.now → cursor.old ≡ question_signs (equal u v g) →
+    requires ahead { (u v : WordTree) × (g : Named) ×
+        (cursor.old ≡ question_signs (equal u v g)) × IsSizedQuestion (equal u v g) }
+    ensures { (scope : Scope) (u v : WordTree) (g : Named) → IsKnown scope known.now →
+        cursor.old ≡ question_signs (equal u v g) →
         IfOk result (λ a. IsQuestionRead scope (equal u v g) found.old found.new a) }
 {
     let name = cursor.last_name();
@@ -130,8 +133,10 @@ fn membership(
     found: &mut Found,
 ) -> Result<Option<Asking>, NoMemory>
     requires known { AreWithin known.now }
-    requires ahead { (w : WordTree) × (h : Named) × (cursor.old ≡ question_signs (member w h)) × IsSizedQuestion (member w h) }
-    ensures { (scope : Scope) (w : WordTree) (h : Named) → IsKnown scope known.now → cursor.old ≡ question_signs (member w h) →
+    requires ahead { (w : WordTree) × (h : Named) × (cursor.old ≡ question_signs (member w h)) ×
+        IsSizedQuestion (member w h) }
+    ensures { (scope : Scope) (w : WordTree) (h : Named) → IsKnown scope known.now →
+        cursor.old ≡ question_signs (member w h) →
         IfOk result (λ a. IsQuestionRead scope (member w h) found.old found.new a) }
 {
     let name = cursor.last_name();
@@ -161,8 +166,10 @@ fn in_kernel(
     found: &mut Found,
 ) -> Result<Option<Asking>, NoMemory>
     requires known { AreWithin known.now }
-    requires ahead { (w : WordTree) × (f : Named) × (cursor.old ≡ question_signs (vanishes w f)) × IsSizedQuestion (vanishes w f) }
-    ensures { (scope : Scope) (w : WordTree) (f : Named) → IsKnown scope known.now → cursor.old ≡ question_signs (vanishes w f) →
+    requires ahead { (w : WordTree) × (f : Named) × (cursor.old ≡ question_signs (vanishes w f)) ×
+        IsSizedQuestion (vanishes w f) }
+    ensures { (scope : Scope) (w : WordTree) (f : Named) → IsKnown scope known.now →
+        cursor.old ≡ question_signs (vanishes w f) →
         IfOk result (λ a. IsQuestionRead scope (vanishes w f) found.old found.new a) }
 {
     let name = cursor.last_name();
@@ -188,8 +195,10 @@ fn centrality(
     found: &mut Found,
 ) -> Result<Option<Asking>, NoMemory>
     requires known { AreWithin known.now }
-    requires ahead { (w : WordTree) × (g : Named) × (cursor.old ≡ question_signs (central w g)) × IsSizedQuestion (central w g) }
-    ensures { (scope : Scope) (w : WordTree) (g : Named) → IsKnown scope known.now → cursor.old ≡ question_signs (central w g) →
+    requires ahead { (w : WordTree) × (g : Named) × (cursor.old ≡ question_signs (central w g)) ×
+        IsSizedQuestion (central w g) }
+    ensures { (scope : Scope) (w : WordTree) (g : Named) → IsKnown scope known.now →
+        cursor.old ≡ question_signs (central w g) →
         IfOk result (λ a. IsQuestionRead scope (central w g) found.old found.new a) }
 {
     let name = cursor.last_name();
@@ -215,7 +224,8 @@ fn property(
 ) -> Result<Option<Asking>, NoMemory>
     requires known { AreWithin known.now }
     requires ahead { (n : Named) × (p : PropertyOf) × (cursor.old ≡ question_signs (has n p)) }
-    ensures { (scope : Scope) (n : Named) (p : PropertyOf) → IsKnown scope known.now → cursor.old ≡ question_signs (has n p) →
+    ensures { (scope : Scope) (n : Named) (p : PropertyOf) → IsKnown scope known.now →
+        cursor.old ≡ question_signs (has n p) →
         IfOk result (λ a. IsQuestionRead scope (has n p) found.old found.new a) }
 {
     let name = cursor.name();

@@ -42,7 +42,8 @@ impl Object {
 
     fn subgroup(&self) -> Option<Subgroup>
         ensures some { IfSome result (λ s. object_of self.now ≡ a_subgroup s.group s.words.now) }
-        ensures none { IfNone result ((group : ℕ) (words : ListOf (ListOf ℤ)) → object_of self.now ≢ a_subgroup group words) }
+        ensures none { IfNone result ((group : ℕ) (words : ListOf (ListOf ℤ)) →
+            object_of self.now ≢ a_subgroup group words) }
     {
         match self {
             Object::Subgroup { group, words } => Some(Subgroup {
@@ -55,7 +56,8 @@ impl Object {
 
     fn mapping(&self) -> Option<Mapping>
         ensures some { IfSome result (λ m. object_of self.now ≡ a_map m.source m.target m.map.now) }
-        ensures none { IfNone result ((source target : ℕ) (images : ListOf (ListOf ℤ)) → object_of self.now ≢ a_map source target images) }
+        ensures none { IfNone result ((source target : ℕ) (images : ListOf (ListOf ℤ)) →
+            object_of self.now ≢ a_map source target images) }
     {
         match self {
             Object::Map {
@@ -86,7 +88,8 @@ impl Names {
     /// A name that is declared must not be there already.
     #[tactic(auto, using(crate::proofs::NameKinds::taken_gets, crate::proofs::NameKinds::new_gets))]
     pub(crate) fn check_new(&self, name: Name, found: &mut Found)
-        ensures { Gets (taken_if (named_of name.entry) (lookup self.now name.entry.text.now)) found.old found.new }
+        ensures { Gets (taken_if (named_of name.entry)
+            (lookup self.now name.entry.text.now)) found.old found.new }
     {
         if self.find(name.text).is_some() {
             found.offer(name.place, Cause::NameTaken);
@@ -96,9 +99,11 @@ impl Names {
     /// The place of the group that the name must stand for.
     #[tactic(auto, using(crate::proofs::NameKinds::group_gets, crate::proofs::NameKinds::no_group_gets, crate::proofs::NameKinds::unknown_group_gets))]
     pub(crate) fn group(&self, name: Name, found: &mut Found) -> Option<u32>
-        ensures causes { Gets (not_a_group (named_of name.entry) (lookup self.now name.entry.text.now)) found.old found.new }
+        ensures causes { Gets (not_a_group (named_of name.entry)
+            (lookup self.now name.entry.text.now)) found.old found.new }
         ensures some { IfSome result (λ place. lookup self.now name.entry.text.now ≡ Some (a_group place)) }
-        ensures none { IfNone result ((place : ℕ) → lookup self.now name.entry.text.now ≢ Some (a_group place)) }
+        ensures none { IfNone result ((place : ℕ) →
+            lookup self.now name.entry.text.now ≢ Some (a_group place)) }
     {
         let Some(object) = self.find(name.text) else {
             found.offer(name.place, Cause::UnknownName);
@@ -114,9 +119,11 @@ impl Names {
     /// The subgroup that the name must stand for.
     #[tactic(auto, using(crate::proofs::NameKinds::subgroup_gets, crate::proofs::NameKinds::no_subgroup_gets, crate::proofs::NameKinds::unknown_subgroup_gets))]
     pub(crate) fn subgroup(&self, name: Name, found: &mut Found) -> Option<Subgroup>
-        ensures causes { Gets (not_a_subgroup (named_of name.entry) (lookup self.now name.entry.text.now)) found.old found.new }
+        ensures causes { Gets (not_a_subgroup (named_of name.entry)
+            (lookup self.now name.entry.text.now)) found.old found.new }
         ensures some { IfSome result (λ s. lookup self.now name.entry.text.now ≡ Some (a_subgroup s.group s.words.now)) }
-        ensures none { IfNone result ((group : ℕ) (words : ListOf (ListOf ℤ)) → lookup self.now name.entry.text.now ≢ Some (a_subgroup group words)) }
+        ensures none { IfNone result ((group : ℕ) (words : ListOf (ListOf ℤ)) →
+            lookup self.now name.entry.text.now ≢ Some (a_subgroup group words)) }
     {
         let Some(object) = self.find(name.text) else {
             found.offer(name.place, Cause::UnknownName);
@@ -132,9 +139,11 @@ impl Names {
     /// The map that the name must stand for.
     #[tactic(auto, using(crate::proofs::NameKinds::map_gets, crate::proofs::NameKinds::no_map_gets, crate::proofs::NameKinds::unknown_map_gets))]
     pub(crate) fn mapping(&self, name: Name, found: &mut Found) -> Option<Mapping>
-        ensures causes { Gets (not_a_map (named_of name.entry) (lookup self.now name.entry.text.now)) found.old found.new }
+        ensures causes { Gets (not_a_map (named_of name.entry)
+            (lookup self.now name.entry.text.now)) found.old found.new }
         ensures some { IfSome result (λ m. lookup self.now name.entry.text.now ≡ Some (a_map m.source m.target m.map.now)) }
-        ensures none { IfNone result ((source target : ℕ) (images : ListOf (ListOf ℤ)) → lookup self.now name.entry.text.now ≢ Some (a_map source target images)) }
+        ensures none { IfNone result ((source target : ℕ) (images : ListOf (ListOf ℤ)) →
+            lookup self.now name.entry.text.now ≢ Some (a_map source target images)) }
     {
         let Some(object) = self.find(name.text) else {
             found.offer(name.place, Cause::UnknownName);
@@ -150,9 +159,11 @@ impl Names {
     /// The place of the question that the name must stand for.
     #[tactic(auto, using(crate::proofs::NameKinds::question_gets, crate::proofs::NameKinds::no_question_gets, crate::proofs::NameKinds::unknown_question_gets))]
     pub(crate) fn question(&self, name: Name, found: &mut Found) -> Option<u32>
-        ensures causes { Gets (not_a_question (named_of name.entry) (lookup self.now name.entry.text.now)) found.old found.new }
+        ensures causes { Gets (not_a_question (named_of name.entry)
+            (lookup self.now name.entry.text.now)) found.old found.new }
         ensures some { IfSome result (λ place. lookup self.now name.entry.text.now ≡ Some (a_question place)) }
-        ensures none { IfNone result ((place : ℕ) → lookup self.now name.entry.text.now ≢ Some (a_question place)) }
+        ensures none { IfNone result ((place : ℕ) →
+            lookup self.now name.entry.text.now ≢ Some (a_question place)) }
     {
         let Some(object) = self.find(name.text) else {
             found.offer(name.place, Cause::UnknownName);

@@ -100,7 +100,8 @@ impl<'a> Model for Cursor<'a> {
 
     ghost view = { λ c. signs_in c.bytes.now c.tokens.now c.lexemes.now };
 
-    ghost invariant = { λ c. AllByRecursion (IsInside c.bytes.now) c.tokens.now × (length c.tokens.now ≡ length c.lexemes.now) };
+    ghost invariant = { λ c. AllByRecursion (IsInside c.bytes.now) c.tokens.now ×
+        (length c.tokens.now ≡ length c.lexemes.now) };
 }
 
 impl<'a> Cursor<'a> {
@@ -190,7 +191,8 @@ impl<'a> Cursor<'a> {
     /// The name that comes next, if one does.
     pub(crate) fn take_name(&mut self) -> Option<Name<'a>>
         ensures some { IfSome result (λ name. self.old ≡ a_name (named_of name) ∷ self.new) }
-        ensures none { IfNone result ((first_lexeme self.old ≢ Some Lexeme.Name) × (self.new ≡ self.old)) }
+        ensures none { IfNone result ((first_lexeme self.old ≢ Some Lexeme.Name) ×
+            (self.new ≡ self.old)) }
     {
         if self.is_name() {
             return Some(self.name());
@@ -211,7 +213,8 @@ impl<'a> Cursor<'a> {
 
     /// The number that comes next, or 0 where none does.
     pub(crate) fn number(&mut self) -> u64
-        ensures read { (n : ℕ) (rest : ListOf Sign) → self.old ≡ the_number n ∷ rest → (result ≡ n) × (self.new ≡ rest) }
+        ensures read { (n : ℕ) (rest : ListOf Sign) → self.old ≡ the_number n ∷ rest →
+            (result ≡ n) × (self.new ≡ rest) }
         ensures shorter { length self.new ≤ length self.old - 1 }
     {
         let number = match self.lexeme() {

@@ -52,9 +52,12 @@ impl Resolver {
     ) -> Result<Option<Object>, NoMemory>
         requires sound { IsSound self.now }
         requires ahead { (w : WordOf) × (cursor.old ≡ word_signs w) × IsSizedWord w }
-        ensures { (scope : ScopeOf) (w : WordOf) → Keeps scope self.now → cursor.old ≡ word_signs w →
-            IfOk result (λ object. IsDeclared scope (named_of name.entry) (word_causes scope (named_of name.entry) (named_of group.entry) w)
-            (after scope (word (named_of name.entry) (named_of group.entry) w)) found.old found.new object) }
+        ensures { (scope : ScopeOf) (w : WordOf) → Keeps scope self.now →
+            cursor.old ≡ word_signs w →
+            IfOk result (λ object. IsDeclared scope (named_of name.entry)
+            (word_causes scope (named_of name.entry) (named_of group.entry) w)
+            (after scope (word (named_of name.entry)
+            (named_of group.entry) w)) found.old found.new object) }
     {
         self.names.check_new(name, found);
         let Some(place) = self.names.group(group, found) else {
@@ -73,8 +76,10 @@ impl Resolver {
         cursor: &mut Cursor,
     ) -> Result<Option<Fault>, NoMemory>
         requires sound { IsSound self.old }
-        requires ahead { (n : Named) × (g : Named) × (w : WordOf) × (cursor.old ≡ tail_of (statement_signs (word n g w))) × IsSized (word n g w) }
-        ensures { (scope : ScopeOf) (line : LineOf) (n : Named) (g : Named) (w : WordOf) → Keeps scope self.old → cursor.old ≡ tail_of (statement_signs (word n g w)) →
+        requires ahead { (n : Named) × (g : Named) × (w : WordOf) ×
+            (cursor.old ≡ tail_of (statement_signs (word n g w))) × IsSized (word n g w) }
+        ensures { (scope : ScopeOf) (line : LineOf) (n : Named) (g : Named) (w : WordOf) →
+            Keeps scope self.old → cursor.old ≡ tail_of (statement_signs (word n g w)) →
             IfOk result (λ fault. Resolved scope line (word n g w) (least_of fault) self.new) }
     {
         let name = cursor.name();
@@ -103,9 +108,12 @@ impl Resolver {
     ) -> Result<Option<Object>, NoMemory>
         requires sound { IsSound self.now }
         requires ahead { AreWordsAhead cursor.old }
-        ensures { (scope : ScopeOf) (ws : ListOf WordOf) → Keeps scope self.now → cursor.old ≡ words_signs ws →
-            IfOk result (λ object. IsDeclared scope (named_of name.entry) (subgroup_causes scope (named_of name.entry) (named_of group.entry) ws)
-            (after scope (subgroup (named_of name.entry) (named_of group.entry) ws)) found.old found.new object) }
+        ensures { (scope : ScopeOf) (ws : ListOf WordOf) → Keeps scope self.now →
+            cursor.old ≡ words_signs ws →
+            IfOk result (λ object. IsDeclared scope (named_of name.entry)
+            (subgroup_causes scope (named_of name.entry) (named_of group.entry) ws)
+            (after scope (subgroup (named_of name.entry)
+            (named_of group.entry) ws)) found.old found.new object) }
     {
         self.names.check_new(name, found);
         let Some(place) = self.names.group(group, found) else {
@@ -127,8 +135,10 @@ impl Resolver {
         cursor: &mut Cursor,
     ) -> Result<Option<Fault>, NoMemory>
         requires sound { IsSound self.old }
-        requires ahead { (n : Named) × (g : Named) × (ws : ListOf WordOf) × (cursor.old ≡ tail_of (statement_signs (subgroup n g ws))) × IsSized (subgroup n g ws) }
-        ensures { (scope : ScopeOf) (line : LineOf) (n : Named) (g : Named) (ws : ListOf WordOf) → Keeps scope self.old → cursor.old ≡ tail_of (statement_signs (subgroup n g ws)) →
+        requires ahead { (n : Named) × (g : Named) × (ws : ListOf WordOf) ×
+            (cursor.old ≡ tail_of (statement_signs (subgroup n g ws))) × IsSized (subgroup n g ws) }
+        ensures { (scope : ScopeOf) (line : LineOf) (n : Named) (g : Named) (ws : ListOf WordOf) →
+            Keeps scope self.old → cursor.old ≡ tail_of (statement_signs (subgroup n g ws)) →
             IfOk result (λ fault. Resolved scope line (subgroup n g ws) (least_of fault) self.new) }
     {
         let name = cursor.name();
@@ -172,7 +182,9 @@ fn read_words(
 
 /// Goes on behind a comma, if one comes next.
 fn go_on(cursor: &mut Cursor)
-    ensures { (ws : ListOf WordOf) → cursor.old ≡ listed_on (map word_signs ws) ++ the_mark Mark.Greater ∷ [] → cursor.new ≡ words_signs ws }
+    ensures { (ws : ListOf WordOf) →
+        cursor.old ≡ listed_on (map word_signs ws) ++ the_mark Mark.Greater ∷ [] →
+        cursor.new ≡ words_signs ws }
 {
     if cursor.is(Mark::Comma) {
         cursor.skip();

@@ -29,8 +29,10 @@ use mg_words::Procedure;
 
 /// The procedure that comes next.
 fn read_procedure(cursor: &mut Cursor) -> Procedure
-    requires { (p : ProcedureOf) × (rest : ListOf Sign) × (cursor.old ≡ the_keyword (procedure_keyword p) ∷ rest) }
-    ensures { (p : ProcedureOf) (rest : ListOf Sign) → cursor.old ≡ the_keyword (procedure_keyword p) ∷ rest → (result ≡ p) × (cursor.new ≡ rest) }
+    requires { (p : ProcedureOf) × (rest : ListOf Sign) ×
+        (cursor.old ≡ the_keyword (procedure_keyword p) ∷ rest) }
+    ensures { (p : ProcedureOf) (rest : ListOf Sign) →
+        cursor.old ≡ the_keyword (procedure_keyword p) ∷ rest → (result ≡ p) × (cursor.new ≡ rest) }
 {
     let procedure = match cursor.lexeme() {
         Some(Lexeme::Keyword(keyword)) => procedure_of(keyword),
@@ -59,7 +61,9 @@ impl Resolver {
     /// Whether the procedure can be used on the question at the place.
     fn applies(&self, question: u32, procedure: Procedure) -> bool
         requires { (q : QuestionOf) × (slice_get self.now.plan.questions question ≡ Some q) }
-        ensures { (q : QuestionOf) (ask : Inquiry) → slice_get self.now.plan.questions question ≡ Some q → q.asked ≡ plain ask → result ≡ applies procedure ask }
+        ensures { (q : QuestionOf) (ask : Inquiry) →
+            slice_get self.now.plan.questions question ≡ Some q → q.asked ≡ plain ask →
+            result ≡ applies procedure ask }
     {
         let questions = self.plan.questions.as_slice();
         let question = &questions[question as usize];
@@ -71,7 +75,8 @@ impl Resolver {
     /// A procedure that can't be used on the question shows a cause.
     fn check_applies(&self, question: u32, procedure: Procedure, place: u32, found: &mut Found)
         requires { (q : QuestionOf) × (slice_get self.now.plan.questions question ≡ Some q) }
-        ensures { (scope : ScopeOf) → Keeps scope self.now → Gets (not_applying_to scope procedure place (Some (a_question question))) found.old found.new }
+        ensures { (scope : ScopeOf) → Keeps scope self.now →
+            Gets (not_applying_to scope procedure place (Some (a_question question))) found.old found.new }
     {
         if !self.applies(question, procedure) {
             found.offer(place, Cause::ProcedureDoesNotApply);
@@ -82,7 +87,8 @@ impl Resolver {
     fn check_room(&self, question: u32, procedure: Procedure, place: u32, found: &mut Found)
         requires sound { IsSound self.now }
         requires there { question < length self.now.plan.questions }
-        ensures { (scope : ScopeOf) → Keeps scope self.now → Gets (too_many_searches scope procedure place (Some (a_question question))) found.old found.new }
+        ensures { (scope : ScopeOf) → Keeps scope self.now →
+            Gets (too_many_searches scope procedure place (Some (a_question question))) found.old found.new }
     {
         if !self.searches.has(question, procedure) && self.searches.is_full(procedure) {
             found.offer(place, Cause::TooMany);
@@ -98,10 +104,12 @@ impl Resolver {
         found: &mut Found,
     ) -> Option<u32>
         requires { IsSound self.now }
-        ensures causes { (scope : ScopeOf) → Keeps scope self.now → Gets (not_a_question (named_of name.entry) (lookup scope.names name.entry.text.now)
+        ensures causes { (scope : ScopeOf) → Keeps scope self.now →
+            Gets (not_a_question (named_of name.entry) (lookup scope.names name.entry.text.now)
             ++ (too_many_searches scope procedure place (lookup scope.names name.entry.text.now) ++ not_applying_to scope procedure place (lookup scope.names name.entry.text.now))) found.old found.new }
         ensures some { IfSome result (λ q. lookup self.now.names name.entry.text.now ≡ Some (a_question q)) }
-        ensures none { IfNone result ((q : ℕ) → lookup self.now.names name.entry.text.now ≢ Some (a_question q)) }
+        ensures none { IfNone result ((q : ℕ) →
+            lookup self.now.names name.entry.text.now ≢ Some (a_question q)) }
     {
         let question = self.names.question(name, found)?;
         self.check_room(question, procedure, place, found);
@@ -111,8 +119,12 @@ impl Resolver {
 
     /// Grants a search units.
     fn add_grant(&mut self, question: u32, procedure: Procedure, units: u64) -> Result<(), NoMemory>
-        requires { (scope : ScopeOf) × (lines : ℕ) × Keeps scope self.old × IsScope lines scope × (question < length scope.plan.questions) × (place : ℕ) × (too_many_searches scope procedure place (Some (a_question question)) ≡ []) }
-        ensures { (scope : ScopeOf) → Keeps scope self.old → question < length scope.plan.questions → OnOk result (Keeps (grants scope procedure units (Some (a_question question))) self.new) }
+        requires { (scope : ScopeOf) × (lines : ℕ) × Keeps scope self.old × IsScope lines scope ×
+            (question < length scope.plan.questions) × (place : ℕ) ×
+            (too_many_searches scope procedure place (Some (a_question question)) ≡ []) }
+        ensures { (scope : ScopeOf) → Keeps scope self.old →
+            question < length scope.plan.questions →
+            OnOk result (Keeps (grants scope procedure units (Some (a_question question))) self.new) }
     {
         self.name_search(question, procedure);
         self.add_step(PlanStep::Grant {
@@ -124,8 +136,12 @@ impl Resolver {
 
     /// Names a pair of a question and a procedure, if it isn't named yet.
     fn name_search(&mut self, question: u32, procedure: Procedure)
-        requires { (scope : ScopeOf) × (lines : ℕ) × Keeps scope self.old × IsScope lines scope × (question < length scope.plan.questions) × (place : ℕ) × (too_many_searches scope procedure place (Some (a_question question)) ≡ []) }
-        ensures { (scope : ScopeOf) → Keeps scope self.old → question < length scope.plan.questions → Keeps (record scope { searches = named_too scope.searches question procedure }) self.new }
+        requires { (scope : ScopeOf) × (lines : ℕ) × Keeps scope self.old × IsScope lines scope ×
+            (question < length scope.plan.questions) × (place : ℕ) ×
+            (too_many_searches scope procedure place (Some (a_question question)) ≡ []) }
+        ensures { (scope : ScopeOf) → Keeps scope self.old →
+            question < length scope.plan.questions →
+            Keeps (record scope { searches = named_too scope.searches question procedure }) self.new }
     {
         if !self.searches.has(question, procedure) {
             self.searches.add(question, procedure);
@@ -139,9 +155,12 @@ impl Resolver {
         place: u32,
     ) -> Result<Option<Fault>, NoMemory>
         requires sound { IsSound self.old }
-        requires ahead { (n : Named) × (p : ProcedureOf) × (units : ℕ) × (cursor.old ≡ a_name n ∷ the_keyword (procedure_keyword p) ∷ the_number units ∷ []) }
-        ensures { (scope : ScopeOf) (line : LineOf) (n : Named) (p : ProcedureOf) (units : ℕ) → Keeps scope self.old →
-            cursor.old ≡ a_name n ∷ the_keyword (procedure_keyword p) ∷ the_number units ∷ [] → place ≡ third_place line.tokens →
+        requires ahead { (n : Named) × (p : ProcedureOf) × (units : ℕ) ×
+            (cursor.old ≡ a_name n ∷ the_keyword (procedure_keyword p) ∷ the_number units ∷ []) }
+        ensures { (scope : ScopeOf) (line : LineOf) (n : Named) (p : ProcedureOf) (units : ℕ) →
+            Keeps scope self.old →
+            cursor.old ≡ a_name n ∷ the_keyword (procedure_keyword p) ∷ the_number units ∷ [] →
+            place ≡ third_place line.tokens →
             IfOk result (λ fault. Resolved scope line (grant n p units) (least_of fault) self.new) }
     {
         let name = cursor.name();
@@ -167,10 +186,12 @@ impl Resolver {
         found: &mut Found,
     ) -> Option<u32>
         requires { IsSound self.now }
-        ensures causes { (scope : ScopeOf) → Keeps scope self.now → Gets (not_a_question (named_of name.entry) (lookup scope.names name.entry.text.now)
+        ensures causes { (scope : ScopeOf) → Keeps scope self.now →
+            Gets (not_a_question (named_of name.entry) (lookup scope.names name.entry.text.now)
             ++ not_applying_to scope procedure place (lookup scope.names name.entry.text.now)) found.old found.new }
         ensures some { IfSome result (λ q. lookup self.now.names name.entry.text.now ≡ Some (a_question q)) }
-        ensures none { IfNone result ((q : ℕ) → lookup self.now.names name.entry.text.now ≢ Some (a_question q)) }
+        ensures none { IfNone result ((q : ℕ) →
+            lookup self.now.names name.entry.text.now ≢ Some (a_question q)) }
     {
         let question = self.names.question(name, found)?;
         self.check_applies(question, procedure, place, found);
@@ -184,9 +205,12 @@ impl Resolver {
         place: u32,
     ) -> Result<Option<Fault>, NoMemory>
         requires sound { IsSound self.old }
-        requires ahead { (n : Named) × (p : ProcedureOf) × (cursor.old ≡ a_name n ∷ the_keyword (procedure_keyword p) ∷ []) }
-        ensures { (scope : ScopeOf) (line : LineOf) (n : Named) (p : ProcedureOf) → Keeps scope self.old →
-            cursor.old ≡ a_name n ∷ the_keyword (procedure_keyword p) ∷ [] → place ≡ third_place line.tokens →
+        requires ahead { (n : Named) × (p : ProcedureOf) ×
+            (cursor.old ≡ a_name n ∷ the_keyword (procedure_keyword p) ∷ []) }
+        ensures { (scope : ScopeOf) (line : LineOf) (n : Named) (p : ProcedureOf) →
+            Keeps scope self.old →
+            cursor.old ≡ a_name n ∷ the_keyword (procedure_keyword p) ∷ [] →
+            place ≡ third_place line.tokens →
             IfOk result (λ fault. Resolved scope line (cancel n p) (least_of fault) self.new) }
     {
         let name = cursor.name();

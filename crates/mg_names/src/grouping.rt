@@ -3,7 +3,7 @@
 ghost use Rattle.std.specs.Prelude.{◌≡◌, ◌∷◌, ◌++◌, [], None, Option, List as ListOf, IfOk, OnOk, ℕ, length, map, ◌≤◌};
 ghost use Rattle.mg_present.specs.Presentation.{Fits};
 ghost use Rattle.mg_script.specs.declared.script.ScriptLine.{ScriptLine as LineOf};
-ghost use Rattle.mg_words.proofs.Free.{free_form};
+ghost use Rattle.mg_words.specs.Reduction.{free_form};
 ghost use Rattle.mg_words.specs.Word.{inv, IsOver};
 ghost use Rattle.mg_names.specs.Cause as cause;
 ghost use Rattle.mg_names.specs.Grouped.{again, EndsRelation, EndsList, AreGeneratorsRead, IsNewHome, IsRelationAhead, IsRelationRead, AreRelationsAhead, AreRelationsRead, group_signs, group_with, IsGroupAhead, IsGroupRead};
@@ -40,7 +40,9 @@ pub(crate) struct Parts {
 /// Goes on behind a comma, if there is one.
 #[tactic(auto, using(crate::proofs::Groups::comma_skipped, crate::proofs::Groups::comma_none))]
 fn skip_comma(cursor: &mut Cursor)
-    ensures skipped { (members : ListOf (ListOf Sign)) (rest : ListOf Sign) → cursor.old ≡ listed_on members ++ rest → EndsList rest → cursor.new ≡ listed members ++ rest }
+    ensures skipped { (members : ListOf (ListOf Sign)) (rest : ListOf Sign) →
+        cursor.old ≡ listed_on members ++ rest → EndsList rest →
+        cursor.new ≡ listed members ++ rest }
     ensures no_longer { length cursor.new ≤ length cursor.old }
 {
     if cursor.is(Mark::Comma) {
@@ -51,7 +53,8 @@ fn skip_comma(cursor: &mut Cursor)
 /// Goes on behind a bar, if there is one.
 #[tactic(auto, using(crate::proofs::Groups::bar_skipped, crate::proofs::Groups::bar_none))]
 fn skip_bar(cursor: &mut Cursor)
-    ensures { (rs : Option (ListOf RelationOf)) → cursor.old ≡ bar_signs rs ++ the_mark Mark.Greater ∷ [] →
+    ensures { (rs : Option (ListOf RelationOf)) →
+        cursor.old ≡ bar_signs rs ++ the_mark Mark.Greater ∷ [] →
         cursor.new ≡ listed (map relation_signs (relations_in rs)) ++ the_mark Mark.Greater ∷ [] }
 {
     if cursor.is(Mark::Bar) {
@@ -93,7 +96,8 @@ fn add_generator(
 
 /// Reads the names of generators.
 fn read_generators(alloc: Global, cursor: &mut Cursor, found: &mut Found) -> Result<Names, NoMemory>
-    ensures { (ns : ListOf Named) (rest : ListOf Sign) → cursor.old ≡ listed (map generator_signs ns) ++ rest → EndsList rest →
+    ensures { (ns : ListOf Named) (rest : ListOf Sign) →
+        cursor.old ≡ listed (map generator_signs ns) ++ rest → EndsList rest →
         IfOk result (λ names. AreGeneratorsRead ns rest found.old names cursor.new found.new) }
 {
     let mut names = Names::new(alloc);
@@ -123,7 +127,8 @@ fn read_relation(
 ) -> Result<Word, NoMemory>
     requires home { IsNewHome home.now }
     requires ahead { IsRelationAhead cursor.old }
-    ensures { (r : RelationOf) (rest : ListOf Sign) → cursor.old ≡ relation_signs r ++ rest → EndsRelation rest →
+    ensures { (r : RelationOf) (rest : ListOf Sign) → cursor.old ≡ relation_signs r ++ rest →
+        EndsRelation rest →
         IfOk result (λ w. IsRelationRead home.now r rest found.old w.letters cursor.new found.new) }
 {
     let left = word(alloc, cursor, home, found)?;
@@ -144,7 +149,8 @@ fn read_relations(
 ) -> Result<Words, NoMemory>
     requires home { IsNewHome home.now }
     requires ahead { AreRelationsAhead cursor.old }
-    ensures { (rs : ListOf RelationOf) (rest : ListOf Sign) → cursor.old ≡ listed (map relation_signs rs) ++ rest → EndsList rest →
+    ensures { (rs : ListOf RelationOf) (rest : ListOf Sign) →
+        cursor.old ≡ listed (map relation_signs rs) ++ rest → EndsList rest →
         IfOk result (λ relators. AreRelationsRead home.now.names.now home.now.place home.now.generators.now rs found.old relators found.new) }
 {
     let mut relators = Words::new(alloc);
@@ -176,7 +182,8 @@ impl Resolver {
         requires sound { IsSound self.now }
         requires few { length generators.now ≤ 64 }
         requires ahead { AreRelationsAhead cursor.old }
-        ensures { (rs : ListOf RelationOf) (rest : ListOf Sign) → cursor.old ≡ listed (map relation_signs rs) ++ rest → EndsList rest →
+        ensures { (rs : ListOf RelationOf) (rest : ListOf Sign) →
+            cursor.old ≡ listed (map relation_signs rs) ++ rest → EndsList rest →
             IfOk result (λ relators. AreRelationsRead self.now.names (length self.now.plan.groups) generators.now rs found.old relators found.new) }
     {
         let home = Home {
@@ -196,7 +203,8 @@ impl Resolver {
     ) -> Result<Parts, NoMemory>
         requires sound { IsSound self.now }
         requires ahead { IsGroupAhead cursor.old }
-        ensures { (generators : ListOf Named) (rs : Option (ListOf RelationOf)) → cursor.old ≡ group_signs generators rs →
+        ensures { (generators : ListOf Named) (rs : Option (ListOf RelationOf)) →
+            cursor.old ≡ group_signs generators rs →
             IfOk result (λ parts. IsGroupRead self.now.names (length self.now.plan.groups) generators (relations_in rs) found.old parts found.new) }
     {
         cursor.skip_all(2);
@@ -237,9 +245,15 @@ impl Resolver {
         cursor: &mut Cursor,
     ) -> Result<Option<Fault>, NoMemory>
         requires sound { IsSound self.old }
-        requires ahead { (n : Named) × (generators : ListOf Named) × (rs : Option (ListOf RelationOf)) × (cursor.old ≡ tail_of (statement_signs (group n generators rs))) × IsSized (group n generators rs) }
-        ensures { (scope : ScopeOf) (line : LineOf) (n : Named) (generators : ListOf Named) (rs : Option (ListOf RelationOf)) → Keeps scope self.old → cursor.old ≡ tail_of (statement_signs (group n generators rs)) →
-            IfOk result (λ fault. Resolved scope line (group n generators rs) (least_of fault) self.new) }
+        requires ahead { (n : Named) × (generators : ListOf Named) ×
+            (rs : Option (ListOf RelationOf)) ×
+            (cursor.old ≡ tail_of (statement_signs (group n generators rs))) ×
+            IsSized (group n generators rs) }
+        ensures { (scope : ScopeOf) (line : LineOf) (n : Named) (generators : ListOf Named)
+            (rs : Option (ListOf RelationOf)) → Keeps scope self.old →
+            cursor.old ≡ tail_of (statement_signs (group n generators rs)) →
+            IfOk result (λ fault. Resolved scope line (group n generators rs)
+            (least_of fault) self.new) }
     {
         let mut found = Found::new();
         let name = cursor.name();

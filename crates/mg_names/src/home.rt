@@ -59,7 +59,8 @@ impl<'a> Home<'a> {
 
     /// The cause that a name shows which is no generator.
     fn unknown(&self, text: &[u8]) -> Cause
-        ensures { (n : Named) → no_letter n (lookup self.now.names.now text.now) None ≡ at result n.place }
+        ensures { (n : Named) →
+            no_letter n (lookup self.now.names.now text.now) None ≡ at result n.place }
     {
         match self.names.find(text) {
             None => Cause::UnknownGenerator,
@@ -103,8 +104,10 @@ impl<'a> Home<'a> {
         found: &mut Found,
     ) -> Result<Word, NoMemory>
         ensures letters { IfOk result (λ w. w.letters ≡
-            name_value self.now.place (lookup self.now.names.now name.entry.text.now) (generator_place self.now.generators.now name.entry.text.now)) }
-        ensures causes { Gets (no_word self.now.place (named_of name.entry) (lookup self.now.names.now name.entry.text.now)
+            name_value self.now.place (lookup self.now.names.now name.entry.text.now)
+            (generator_place self.now.generators.now name.entry.text.now)) }
+        ensures causes { Gets (no_word self.now.place (named_of name.entry)
+            (lookup self.now.names.now name.entry.text.now)
             (generator_place self.now.generators.now name.entry.text.now)) found.old found.new }
     {
         match self.generator(name.text) {
@@ -116,7 +119,8 @@ impl<'a> Home<'a> {
     /// The declared word of the group with this name, which is no generator.
     fn declared(&self, alloc: Global, name: Name, found: &mut Found) -> Result<Word, NoMemory>
         ensures letters { IfOk result (λ w. w.letters ≡ declared_word self.now.place (lookup self.now.names.now name.entry.text.now)) }
-        ensures causes { Gets (no_word self.now.place (named_of name.entry) (lookup self.now.names.now name.entry.text.now) None) found.old found.new }
+        ensures causes { Gets (no_word self.now.place (named_of name.entry)
+            (lookup self.now.names.now name.entry.text.now) None) found.old found.new }
     {
         match self.names.find(name.text) {
             None => {

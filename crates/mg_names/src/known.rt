@@ -31,7 +31,8 @@ impl<'a> Known<'a> {
     /// The presentation of the group at a place.
     pub(crate) fn presentation(&self, alloc: Global, place: u32) -> Result<Presentation, NoMemory>
         requires { place < length self.now.groups.now }
-        ensures { (scope : Scope) → IsKnown scope self.now → IfOk result (λ group. group ≡ (group_at scope place).group) }
+        ensures { (scope : Scope) → IsKnown scope self.now →
+            IfOk result (λ group. group ≡ (group_at scope place).group) }
     {
         self.group(place).group.copy(alloc)
     }

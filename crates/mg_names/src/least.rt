@@ -48,7 +48,8 @@ impl Found {
 
     /// Takes one more cause.
     pub(crate) fn offer(&mut self, place: u32, cause: Cause)
-        ensures { (all : ListOf Shown) → IsLeastOf all self.old → IsLeastOf (all ++ at cause place) self.new }
+        ensures { (all : ListOf Shown) → IsLeastOf all self.old →
+            IsLeastOf (all ++ at cause place) self.new }
     {
         let fault = Fault { place, cause };
         match self.least {

@@ -27,7 +27,7 @@ mod words;
 
 pub use laws::{
     a_plan_asks_its_questions, a_question_asks_once, every_script_has_a_plan_or_a_cause,
-    plans_are_within_bounds,
+    plans_are_within_bounds, the_limits,
 };
 pub use limits::{ASK_LETTER_LIMIT, COSET_LIMIT, REWRITE_LIMIT};
 pub use plan::{

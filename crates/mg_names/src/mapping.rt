@@ -8,7 +8,7 @@ ghost use Rattle.mg_names.specs.Cause as spec;
 ghost use Rattle.mg_names.specs.Cause.{at, in_mapping, last_place, lefts, missing, not_a_group, not_a_letter, twice};
 ghost use Rattle.mg_names.specs.Keeping.{Keeps, IsSound, Resolved};
 ghost use Rattle.mg_names.specs.Least.{Gets, least_of};
-ghost use Rattle.mg_names.specs.Mapped.{value_at, causes_at, AreArrowsAhead, IsArrowAhead, IsHeadingAhead, IsHeading, IsOneRead, AreRead, IsHomeOf, Stands, IsMapOf, arrows_signs, further_signs, heading_signs};
+ghost use Rattle.mg_names.specs.Mapped.{value_at, causes_at, AreArrowsAhead, IsArrowAhead, IsHeadingAhead, IsHeading, IsOneRead, AreRead, IsHomeOf, NamesGroup, IsMapOf, arrows_signs, further_signs, heading_signs};
 ghost use Rattle.mg_names.specs.Meaning.{group_at, image_of_generator, images, texts, value, value_or_none};
 ghost use Rattle.mg_names.specs.Name.{named_of};
 ghost use Rattle.mg_names.specs.Named.{Named, Arrow as ArrowOf, Word as WordOf, mapping};
@@ -43,7 +43,8 @@ pub(crate) struct Heading<'a> {
 /// `NAME : SOURCE -> TARGET = [`
 fn read_heading<'a>(cursor: &mut Cursor<'a>) -> Heading<'a>
     requires { IsHeadingAhead cursor.old }
-    ensures { (n a b : Named) (rest : ListOf Sign) → cursor.old ≡ heading_signs n a b rest → IsHeading n a b rest result cursor.new }
+    ensures { (n a b : Named) (rest : ListOf Sign) → cursor.old ≡ heading_signs n a b rest →
+        IsHeading n a b rest result cursor.new }
 {
     let name = cursor.name();
     cursor.skip();
@@ -60,7 +61,8 @@ fn read_heading<'a>(cursor: &mut Cursor<'a>) -> Heading<'a>
 
 /// Goes on behind a comma, if there is one.
 fn skip_comma(cursor: &mut Cursor)
-    ensures { (arrows : ListOf ArrowOf) → cursor.old ≡ further_signs arrows → cursor.new ≡ arrows_signs arrows }
+    ensures { (arrows : ListOf ArrowOf) → cursor.old ≡ further_signs arrows →
+        cursor.new ≡ arrows_signs arrows }
 {
     if cursor.is(Mark::Comma) {
         cursor.skip();
@@ -75,9 +77,12 @@ fn read_image(
     found: &mut Found,
 ) -> Result<Word, NoMemory>
     requires { IsWordAhead cursor.old }
-    ensures letters { (w : WordOf) (rest : ListOf Sign) → cursor.old ≡ word_signs w ++ rest → Stops rest → IfOk result (λ image. image.letters ≡ value_at target.now w) }
-    ensures rest { (w : WordOf) (rest : ListOf Sign) → cursor.old ≡ word_signs w ++ rest → Stops rest → OnOk result (cursor.new ≡ rest) }
-    ensures causes { (w : WordOf) (rest : ListOf Sign) → cursor.old ≡ word_signs w ++ rest → Stops rest → OnOk result (Gets (causes_at target.now w) found.old found.new) }
+    ensures letters { (w : WordOf) (rest : ListOf Sign) → cursor.old ≡ word_signs w ++ rest →
+        Stops rest → IfOk result (λ image. image.letters ≡ value_at target.now w) }
+    ensures rest { (w : WordOf) (rest : ListOf Sign) → cursor.old ≡ word_signs w ++ rest →
+        Stops rest → OnOk result (cursor.new ≡ rest) }
+    ensures causes { (w : WordOf) (rest : ListOf Sign) → cursor.old ≡ word_signs w ++ rest →
+        Stops rest → OnOk result (Gets (causes_at target.now w) found.old found.new) }
 {
     match target {
         Some(home) => word(alloc, cursor, home, found),
@@ -145,7 +150,8 @@ fn read_arrows<'a>(
     found: &mut Found,
 ) -> Result<Arrows<'a>, NoMemory>
     requires { AreArrowsAhead cursor.old }
-    ensures { (all : ListOf ArrowOf) → cursor.old ≡ arrows_signs all → IfOk result (λ arrows. AreRead target.now all found.old arrows found.new) }
+    ensures { (all : ListOf ArrowOf) → cursor.old ≡ arrows_signs all →
+        IfOk result (λ arrows. AreRead target.now all found.old arrows found.new) }
 {
     let mut arrows = Arrows {
         names: List::new(alloc),
@@ -168,7 +174,8 @@ impl<'a> Arrows<'a> {
         found: &mut Found,
     ) -> Result<(), NoMemory>
         requires { IsArrowAhead cursor.old }
-        ensures { (a : ArrowOf) (rest : ListOf Sign) → cursor.old ≡ arrow_signs a ++ rest → Stops rest →
+        ensures { (a : ArrowOf) (rest : ListOf Sign) → cursor.old ≡ arrow_signs a ++ rest →
+            Stops rest →
             OnOk result (IsOneRead target.now a rest found.old self.old cursor.new self.new found.new) }
     {
         let name = cursor.name();
@@ -180,7 +187,8 @@ impl<'a> Arrows<'a> {
 
     /// A name that is no generator of the source shows a cause.
     fn check_generators(&self, source: &Home, found: &mut Found)
-        ensures { Gets (flat_map (not_a_letter source.now.names.now source.now.generators.now) (map named_of self.now.names)) found.old found.new }
+        ensures { Gets (flat_map (not_a_letter source.now.names.now source.now.generators.now)
+            (map named_of self.now.names)) found.old found.new }
     {
         for name in self.names.as_slice() {
             source.check_generator(*name, found);
@@ -206,7 +214,8 @@ impl<'a> Arrows<'a> {
         found: &mut Found,
     ) -> Result<(), NoMemory>
         ensures { OnOk result (Gets (flat_map (not_a_letter source.now.names.now source.now.generators.now) (map named_of self.now.names)
-            ++ (twice (map named_of self.now.names) ++ missing (texts (map named_of self.now.names)) close source.now.generators.now)) found.old found.new) }
+            ++ (twice (map named_of self.now.names) ++
+            missing (texts (map named_of self.now.names)) close source.now.generators.now)) found.old found.new) }
     {
         self.check_generators(source, found);
         check_twice(alloc, self.names.as_slice(), found)?;
@@ -217,7 +226,9 @@ impl<'a> Arrows<'a> {
     /// The image of a generator, which is empty where it has none.
     fn image(&self, alloc: Global, generator: &[u8]) -> Result<Word, NoMemory>
         requires { length self.now.names ≡ length self.now.images }
-        ensures { (scope : ScopeOf) (target : ℕ) (all : ListOf ArrowOf) → map named_of self.now.names ≡ lefts all → self.now.images ≡ map (λ a. value scope.names target (group_at scope target).generators a.image) all →
+        ensures { (scope : ScopeOf) (target : ℕ) (all : ListOf ArrowOf) →
+            map named_of self.now.names ≡ lefts all →
+            self.now.images ≡ map (λ a. value scope.names target (group_at scope target).generators a.image) all →
             IfOk result (λ image. image.letters ≡ value_or_none scope target (image_of_generator all generator.now)) }
     {
         match place_among(self.names.as_slice(), generator) {
@@ -229,7 +240,9 @@ impl<'a> Arrows<'a> {
     /// The images of these generators in order.
     fn in_order(&self, alloc: Global, generators: &[Text]) -> Result<Words, NoMemory>
         requires { length self.now.names ≡ length self.now.images }
-        ensures { (scope : ScopeOf) (target : ℕ) (all : ListOf ArrowOf) → map named_of self.now.names ≡ lefts all → self.now.images ≡ map (λ a. value scope.names target (group_at scope target).generators a.image) all →
+        ensures { (scope : ScopeOf) (target : ℕ) (all : ListOf ArrowOf) →
+            map named_of self.now.names ≡ lefts all →
+            self.now.images ≡ map (λ a. value scope.names target (group_at scope target).generators a.image) all →
             IfOk result (λ words. words ≡ map (λ g. value_or_none scope target (image_of_generator all g)) generators.now) }
     {
         let mut images = Words::new(alloc);
@@ -273,9 +286,13 @@ impl Resolver {
         requires source { IfSome source (λ place. place < length self.now.plan.groups) }
         requires target { IfSome target (λ place. place < length self.now.plan.groups) }
         requires ahead { AreArrowsAhead cursor.old }
-        ensures causes { (scope : ScopeOf) (line : LineOf) (all : ListOf ArrowOf) (from to : Option ObjectOf) → Keeps scope self.now → cursor.old ≡ arrows_signs all → close ≡ last_place line.tokens → Stands from source → Stands to target →
+        ensures causes { (scope : ScopeOf) (line : LineOf) (all : ListOf ArrowOf)
+            (from to : Option ObjectOf) → Keeps scope self.now → cursor.old ≡ arrows_signs all →
+            close ≡ last_place line.tokens → NamesGroup from source → NamesGroup to target →
             OnOk result (Gets (in_mapping scope line all from to) found.old found.new) }
-        ensures images { (scope : ScopeOf) (all : ListOf ArrowOf) (s t : ℕ) → Keeps scope self.now → cursor.old ≡ arrows_signs all → source ≡ Some s → target ≡ Some t →
+        ensures images { (scope : ScopeOf) (all : ListOf ArrowOf) (s t : ℕ) →
+            Keeps scope self.now → cursor.old ≡ arrows_signs all → source ≡ Some s →
+            target ≡ Some t →
             IfOk result (λ words. words ≡ images scope s t all) }
     {
         let target = self.home_of(target);
@@ -303,12 +320,18 @@ impl Resolver {
     ) -> Result<Option<Object>, NoMemory>
         requires sound { IsSound self.now }
         requires ahead { AreArrowsAhead cursor.old }
-        ensures causes { (scope : ScopeOf) (line : LineOf) (all : ListOf ArrowOf) → Keeps scope self.now → cursor.old ≡ arrows_signs all → close ≡ last_place line.tokens →
-            OnOk result (Gets (not_a_group (named_of heading.now.source) (lookup scope.names heading.now.source.text.now)
-            ++ (not_a_group (named_of heading.now.target) (lookup scope.names heading.now.target.text.now)
-            ++ in_mapping scope line all (lookup scope.names heading.now.source.text.now) (lookup scope.names heading.now.target.text.now))) found.old found.new) }
-        ensures object { (scope : ScopeOf) (all : ListOf ArrowOf) → Keeps scope self.now → cursor.old ≡ arrows_signs all →
-            IfOk result (IsMapOf scope all (named_of heading.now.source) (named_of heading.now.target)) }
+        ensures causes { (scope : ScopeOf) (line : LineOf) (all : ListOf ArrowOf) →
+            Keeps scope self.now → cursor.old ≡ arrows_signs all → close ≡ last_place line.tokens →
+            OnOk result (Gets (not_a_group (named_of heading.now.source)
+            (lookup scope.names heading.now.source.text.now)
+            ++ (not_a_group (named_of heading.now.target)
+            (lookup scope.names heading.now.target.text.now)
+            ++ in_mapping scope line all (lookup scope.names heading.now.source.text.now)
+            (lookup scope.names heading.now.target.text.now))) found.old found.new) }
+        ensures object { (scope : ScopeOf) (all : ListOf ArrowOf) → Keeps scope self.now →
+            cursor.old ≡ arrows_signs all →
+            IfOk result (IsMapOf scope all (named_of heading.now.source)
+            (named_of heading.now.target)) }
     {
         let source = self.names.group(heading.source, found);
         let target = self.names.group(heading.target, found);
@@ -335,9 +358,15 @@ impl Resolver {
         close: u32,
     ) -> Result<Option<Fault>, NoMemory>
         requires sound { IsSound self.old }
-        requires ahead { (n : Named) × (a : Named) × (b : Named) × (arrows : ListOf ArrowOf) × (cursor.old ≡ tail_of (statement_signs (mapping n a b arrows))) × IsSized (mapping n a b arrows) }
-        ensures { (scope : ScopeOf) (line : LineOf) (n : Named) (a : Named) (b : Named) (arrows : ListOf ArrowOf) → Keeps scope self.old → cursor.old ≡ tail_of (statement_signs (mapping n a b arrows)) → close ≡ last_place line.tokens →
-            IfOk result (λ fault. Resolved scope line (mapping n a b arrows) (least_of fault) self.new) }
+        requires ahead { (n : Named) × (a : Named) × (b : Named) × (arrows : ListOf ArrowOf) ×
+            (cursor.old ≡ tail_of (statement_signs (mapping n a b arrows))) ×
+            IsSized (mapping n a b arrows) }
+        ensures { (scope : ScopeOf) (line : LineOf) (n : Named) (a : Named) (b : Named)
+            (arrows : ListOf ArrowOf) → Keeps scope self.old →
+            cursor.old ≡ tail_of (statement_signs (mapping n a b arrows)) →
+            close ≡ last_place line.tokens →
+            IfOk result (λ fault. Resolved scope line (mapping n a b arrows)
+            (least_of fault) self.new) }
     {
         let heading = read_heading(cursor);
         let mut found = Found::new();

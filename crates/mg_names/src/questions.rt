@@ -44,8 +44,10 @@ impl Resolver {
         cursor: &mut Cursor,
     ) -> Result<Option<Fault>, NoMemory>
         requires sound { IsSound self.old }
-        requires ahead { (n : Named) × (q : QuestionTree) × (cursor.old ≡ tail_of (statement_signs (ask n q))) × IsSized (ask n q) }
-        ensures { (scope : ScopeOf) (line : LineOf) (n : Named) (q : QuestionTree) → Keeps scope self.old → cursor.old ≡ tail_of (statement_signs (ask n q)) →
+        requires ahead { (n : Named) × (q : QuestionTree) ×
+            (cursor.old ≡ tail_of (statement_signs (ask n q))) × IsSized (ask n q) }
+        ensures { (scope : ScopeOf) (line : LineOf) (n : Named) (q : QuestionTree) →
+            Keeps scope self.old → cursor.old ≡ tail_of (statement_signs (ask n q)) →
             IfOk result (λ fault. Resolved scope line (ask n q) (least_of fault) self.new) }
     {
         let name = cursor.name();
@@ -73,7 +75,8 @@ impl Resolver {
     ) -> Result<Option<Addition>, NoMemory>
         requires sound { IsSound self.now }
         requires ahead { IsQuestionAhead cursor.old }
-        ensures { (scope : ScopeOf) (q : QuestionTree) → Keeps scope self.now → cursor.old ≡ question_signs q →
+        ensures { (scope : ScopeOf) (q : QuestionTree) → Keeps scope self.now →
+            cursor.old ≡ question_signs q →
             IfOk result (λ addition. IsAskRead scope (named_of name.entry) q found.old found.new addition) }
     {
         let known = self.known();
@@ -100,8 +103,10 @@ impl Resolver {
         requires sound { IsSound self.now }
         requires fit { IsFit asking.now.question }
         requires presented { IsPresented (group_of asking.now.question) }
-        ensures { (scope : ScopeOf) (a : MeantAsking) → Keeps scope self.now → IsSameAsking a asking.now →
-            IfOk result (λ addition. Gets (too_large scope (named_of name.entry) (Some a)) found.old found.new × (found.new ≡ None → IsToAdd scope (Some a) addition)) }
+        ensures { (scope : ScopeOf) (a : MeantAsking) → Keeps scope self.now →
+            IsSameAsking a asking.now →
+            IfOk result (λ addition. Gets (too_large scope (named_of name.entry)
+            (Some a)) found.old found.new × (found.new ≡ None → IsToAdd scope (Some a) addition)) }
     {
         match sized_ask(alloc, &asking.question, self.letters)? {
             Sizing::Fits(counted) => Ok(Some(Addition {
@@ -120,7 +125,8 @@ impl Resolver {
         requires sound { IsSound self.old }
         requires new { lookup self.old.names name.text.now ≡ None }
         requires few { self.old.letters + addition.counted.letters ≤ ASK_LETTER_LIMIT }
-        ensures { (scope : ScopeOf) (a : MeantAsking) → Keeps scope self.old → IsToAdd scope (Some a) (Some addition) →
+        ensures { (scope : ScopeOf) (a : MeantAsking) → Keeps scope self.old →
+            IsToAdd scope (Some a) (Some addition) →
             OnOk result (Keeps (declares_question scope (named_of name.entry) (Some a)) self.new) }
     {
         let place = self.plan.questions.as_slice().len() as u32;

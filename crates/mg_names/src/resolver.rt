@@ -53,21 +53,25 @@ impl Resolver {
         object: Object,
     ) -> Result<(), NoMemory>
         requires { lookup self.old.names name.text.now ≡ None }
-        ensures { (scope : ScopeOf) → Keeps scope self.old → OnOk result (Keeps (declaring scope (named_of name.entry) (object_of object)) self.new) }
+        ensures { (scope : ScopeOf) → Keeps scope self.old →
+            OnOk result (Keeps (declaring scope (named_of name.entry)
+            (object_of object)) self.new) }
     {
         self.names.declare(alloc, name.text, object)
     }
 
     /// Adds a step of the session.
     pub(crate) fn add_step(&mut self, step: PlanStep) -> Result<(), NoMemory>
-        ensures { (scope : ScopeOf) → Keeps scope self.old → OnOk result (Keeps (stepping scope (step_of step)) self.new) }
+        ensures { (scope : ScopeOf) → Keeps scope self.old →
+            OnOk result (Keeps (stepping scope (step_of step)) self.new) }
     {
         self.plan.steps.push(step)
     }
 
     /// Adds a group.
     pub(crate) fn add_group(&mut self, group: PlanGroup) -> Result<(), NoMemory>
-        ensures { (scope : ScopeOf) → Keeps scope self.old → OnOk result (Keeps (with_group scope group) self.new) }
+        ensures { (scope : ScopeOf) → Keeps scope self.old →
+            OnOk result (Keeps (with_group scope group) self.new) }
     {
         self.plan.groups.push(group)
     }
@@ -79,7 +83,8 @@ impl Resolver {
         letters: u64,
     ) -> Result<(), NoMemory>
         requires { self.old.letters + letters < 2 ^ 64 }
-        ensures { (scope : ScopeOf) (asked : QuestionOf) → Keeps scope self.old → OnOk result (Keeps (with_question scope question asked letters) self.new) }
+        ensures { (scope : ScopeOf) (asked : QuestionOf) → Keeps scope self.old →
+            OnOk result (Keeps (with_question scope question asked letters) self.new) }
     {
         self.searches.add_question()?;
         self.plan.questions.push(question)?;

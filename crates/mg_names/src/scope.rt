@@ -43,8 +43,10 @@ impl Object {
     pub(crate) fn word_in(&self, place: u32) -> Option<&Word>
         ensures letters { IfSome result (λ w. w.now.letters ≡ declared_word place (Some (object_of self.now))) }
         ensures none { IfNone result (declared_word place (Some (object_of self.now)) ≡ []) }
-        ensures word { IfSome result (λ w. (n : Named) → no_word place n (Some (object_of self.now)) None ≡ []) }
-        ensures other { IfNone result ((n : Named) → no_word place n (Some (object_of self.now)) None ≡ at Cause.WrongKind n.place) }
+        ensures word { IfSome result (λ w. (n : Named) →
+            no_word place n (Some (object_of self.now)) None ≡ []) }
+        ensures other { IfNone result ((n : Named) →
+            no_word place n (Some (object_of self.now)) None ≡ at Cause.WrongKind n.place) }
     {
         match self {
             Object::Word { group, word } => { if *group == place { Some(word) } else { None } }
@@ -95,7 +97,8 @@ impl Names {
         object: Object,
     ) -> Result<(), NoMemory>
         requires { lookup self.old text.now ≡ None }
-        ensures ok { OnOk result (self.new ≡ self.old ++ record { name = text.now; object = object_of object } ∷ []) }
+        ensures ok { OnOk result (self.new ≡ self.old ++
+            record { name = text.now; object = object_of object } ∷ []) }
         ensures err { OnErr result (self.new ≡ self.old) }
     {
         let key = Vec::from_slice(alloc, text)?;

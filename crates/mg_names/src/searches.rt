@@ -56,7 +56,8 @@ impl Searches {
 
     /// Makes room for one more question.
     pub(crate) fn add_question(&mut self) -> Result<(), NoMemory>
-        ensures { (ss : ListOf (ℕ × ProcedureOf)) (n : ℕ) → Holds ss n self.old → OnOk result (Holds ss (n + 1) self.new) }
+        ensures { (ss : ListOf (ℕ × ProcedureOf)) (n : ℕ) → Holds ss n self.old →
+            OnOk result (Holds ss (n + 1) self.new) }
     {
         self.named.extend_from_slice(&[false; PROCEDURES])?;
         Ok(())
@@ -64,15 +65,18 @@ impl Searches {
 
     /// Whether the pair is named.
     pub(crate) fn has(&self, question: u32, procedure: Procedure) -> bool
-        requires { (ss : ListOf (ℕ × ProcedureOf)) × (n : ℕ) × Holds ss n self.now × (question < n) }
-        ensures { (ss : ListOf (ℕ × ProcedureOf)) (n : ℕ) → Holds ss n self.now → question < n → result ≡ is_named ss question procedure }
+        requires { (ss : ListOf (ℕ × ProcedureOf)) × (n : ℕ) × Holds ss n self.now ×
+            (question < n) }
+        ensures { (ss : ListOf (ℕ × ProcedureOf)) (n : ℕ) → Holds ss n self.now → question < n →
+            result ≡ is_named ss question procedure }
     {
         self.named[place_of(question, procedure)]
     }
 
     /// Whether no more pair of the procedure may be named.
     pub(crate) fn is_full(&self, procedure: Procedure) -> bool
-        ensures { (ss : ListOf (ℕ × ProcedureOf)) (n : ℕ) → Holds ss n self.now → result ≡ one_more_is_too_many ss procedure }
+        ensures { (ss : ListOf (ℕ × ProcedureOf)) (n : ℕ) → Holds ss n self.now →
+            result ≡ one_more_is_too_many ss procedure }
     {
         let full = self.count >= MOST_SEARCHES;
         match procedure {
@@ -86,8 +90,10 @@ impl Searches {
     /// Names a pair that isn't named.
     #[tactic(auto, using(crate::proofs::Pairs::few_of))]
     pub(crate) fn add(&mut self, question: u32, procedure: Procedure)
-        requires { (ss : ListOf (ℕ × ProcedureOf)) × (n : ℕ) × Holds ss n self.old × (question < n) × (length ss < MOST_SEARCHES) }
-        ensures { (ss : ListOf (ℕ × ProcedureOf)) (n : ℕ) → Holds ss n self.old → question < n → Holds (ss ++ (question, procedure) ∷ []) n self.new }
+        requires { (ss : ListOf (ℕ × ProcedureOf)) × (n : ℕ) × Holds ss n self.old ×
+            (question < n) × (length ss < MOST_SEARCHES) }
+        ensures { (ss : ListOf (ℕ × ProcedureOf)) (n : ℕ) → Holds ss n self.old → question < n →
+            Holds (ss ++ (question, procedure) ∷ []) n self.new }
     {
         self.named[place_of(question, procedure)] = true;
         self.count += 1;

@@ -35,7 +35,8 @@ pub(crate) enum Sizing {
 
 /// How many letters there is still room for behind these words.
 fn room_after(words: &[Word], room: u64) -> Option<u64>
-    ensures { MatchOption result (room < letters_in (letters_of words.now)) (λ left. left + letters_in (letters_of words.now) ≡ room) }
+    ensures { MatchOption result (room < letters_in (letters_of words.now))
+        (λ left. left + letters_in (letters_of words.now) ≡ room) }
 {
     let mut left = room;
     for word in words {
@@ -50,7 +51,8 @@ fn room_after(words: &[Word], room: u64) -> Option<u64>
 
 /// How many letters there is still room for behind the Ask.
 fn room_after_ask(ask: &Ask, room: u64) -> Option<u64>
-    ensures { MatchOption result (room < letters_of_ask ask.now) (λ left. left + letters_of_ask ask.now ≡ room) }
+    ensures { MatchOption result (room < letters_of_ask ask.now)
+        (λ left. left + letters_of_ask ask.now ≡ room) }
 {
     let room = room_after(ask.group().relators().as_slice(), room)?;
     let room = room_after(ask.subgroup().as_slice(), room)?;
@@ -66,7 +68,8 @@ pub(crate) fn sized_ask(
     requires fit { IsFit question.now }
     requires presented { IsPresented (group_of question.now) }
     requires letters { letters ≤ ASK_LETTER_LIMIT }
-    ensures { (scope : Scope) (n : Named) (a : Asking) → scope.letters ≡ letters → content_of question.now ≡ content_of a.question →
+    ensures { (scope : Scope) (n : Named) (a : Asking) → scope.letters ≡ letters →
+        content_of question.now ≡ content_of a.question →
         IfOk result (λ sizing. IsSizing scope n a sizing) }
 {
     let ask = match ask_of(alloc, question) {

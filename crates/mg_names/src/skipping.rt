@@ -11,7 +11,8 @@ use mg_terms::Lexeme;
 
 /// Goes on behind a word.
 pub(crate) fn skip_word(cursor: &mut Cursor)
-    ensures { (w : Word) (rest : ListOf Sign) → cursor.old ≡ word_signs w ++ rest → Stops rest → cursor.new ≡ rest }
+    ensures { (w : Word) (rest : ListOf Sign) → cursor.old ≡ word_signs w ++ rest → Stops rest →
+        cursor.new ≡ rest }
 {
     let mut depth = 0;
     for _step in 0..cursor.left() {

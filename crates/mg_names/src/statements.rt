@@ -55,7 +55,8 @@ impl Resolver {
 
     /// `fund UNITS`
     fn fund(&mut self, cursor: &mut Cursor) -> Result<Option<Fault>, NoMemory>
-        ensures { (scope : ScopeOf) (line : LineOf) (units : ℕ) → Keeps scope self.old → cursor.old ≡ the_number units ∷ [] →
+        ensures { (scope : ScopeOf) (line : LineOf) (units : ℕ) → Keeps scope self.old →
+            cursor.old ≡ the_number units ∷ [] →
             IfOk result (λ fault. Resolved scope line (fund units) (least_of fault) self.new) }
     {
         let units = cursor.number();
@@ -65,7 +66,8 @@ impl Resolver {
 
     /// `run`, or `run BOUND`
     fn run(&mut self, cursor: &mut Cursor) -> Result<Option<Fault>, NoMemory>
-        ensures { (scope : ScopeOf) (line : LineOf) (bound : Option ℕ) → Keeps scope self.old → cursor.old ≡ bound_signs bound →
+        ensures { (scope : ScopeOf) (line : LineOf) (bound : Option ℕ) → Keeps scope self.old →
+            cursor.old ≡ bound_signs bound →
             IfOk result (λ fault. Resolved scope line (run bound) (least_of fault) self.new) }
     {
         let bound = read_bound(cursor);
@@ -76,7 +78,8 @@ impl Resolver {
     /// `report`, `report facts` or `report log`
     fn report(&mut self, cursor: &mut Cursor) -> Result<Option<Fault>, NoMemory>
         requires { IsSound self.old }
-        ensures { (scope : ScopeOf) (line : LineOf) (what : PrintedOf) → Keeps scope self.old → cursor.old ≡ printed_signs what →
+        ensures { (scope : ScopeOf) (line : LineOf) (what : PrintedOf) → Keeps scope self.old →
+            cursor.old ≡ printed_signs what →
             IfOk result (λ fault. Resolved scope line (report what) (least_of fault) self.new) }
     {
         let step = self.report_step(cursor);
@@ -87,7 +90,8 @@ impl Resolver {
     /// What a report prints, of the questions so far.
     fn report_step(&self, cursor: &Cursor) -> PlanStep
         requires { IsSound self.now }
-        ensures { (what : PrintedOf) → cursor.now ≡ printed_signs what → step_of result ≡ printed_step (length self.now.plan.questions) what }
+        ensures { (what : PrintedOf) → cursor.now ≡ printed_signs what →
+            step_of result ≡ printed_step (length self.now.plan.questions) what }
     {
         if cursor.is_keyword(Keyword::Facts) {
             return PlanStep::ReportFacts;
@@ -103,7 +107,8 @@ impl Resolver {
 /// The keyword that comes first.
 fn first_keyword(cursor: &mut Cursor) -> Keyword
     requires { (k : KeywordOf) × (rest : ListOf Sign) × (cursor.old ≡ the_keyword k ∷ rest) }
-    ensures { (k : KeywordOf) (rest : ListOf Sign) → cursor.old ≡ the_keyword k ∷ rest → (result ≡ k) × (cursor.new ≡ rest) }
+    ensures { (k : KeywordOf) (rest : ListOf Sign) → cursor.old ≡ the_keyword k ∷ rest →
+        (result ≡ k) × (cursor.new ≡ rest) }
 {
     match cursor.lexeme() {
         Some(Lexeme::Keyword(keyword)) => {

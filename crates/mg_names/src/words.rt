@@ -2,7 +2,7 @@
 
 ghost use Rattle.std.specs.Prelude.{◌≡◌, ◌↔◌, ◌∷◌, ◌++◌, ◌+◌, ◌-◌, ◌*◌, ◌≤◌, ℕ, Bool, List as ListOf, IfOk, OnOk, IsTrue, length};
 ghost use Rattle.mg_words.specs.Word.{power_of};
-ghost use Rattle.mg_words.specs.declared.operations.TheConstants.{MOST_POWER_LETTERS};
+ghost use Rattle.mg_words.specs.declared.limits.TheConstants.{MOST_POWER_LETTERS};
 ghost use Rattle.mg_names.specs.Named.{Named, Base, named, one, round, commutator, Factor, Word as WordTree, base_names, factor_names, word_names};
 ghost use Rattle.mg_names.specs.Meaning.{signed, base_written, factor_written, written, value};
 ghost use Rattle.mg_names.specs.Cause.{in_word};
@@ -25,11 +25,14 @@ pub(crate) fn word(
     found: &mut Found,
 ) -> Result<Word, NoMemory>
     requires { IsWordAhead cursor.old }
-    ensures letters { (w : WordTree) (rest : ListOf Sign) → cursor.old ≡ word_signs w ++ rest → Stops rest →
+    ensures letters { (w : WordTree) (rest : ListOf Sign) → cursor.old ≡ word_signs w ++ rest →
+        Stops rest →
         IfOk result (λ v. v.letters ≡ value home.now.names.now home.now.place home.now.generators.now w) }
-    ensures rest { (w : WordTree) (rest : ListOf Sign) → cursor.old ≡ word_signs w ++ rest → Stops rest →
+    ensures rest { (w : WordTree) (rest : ListOf Sign) → cursor.old ≡ word_signs w ++ rest →
+        Stops rest →
         OnOk result (cursor.new ≡ rest) }
-    ensures causes { (w : WordTree) (rest : ListOf Sign) → cursor.old ≡ word_signs w ++ rest → Stops rest →
+    ensures causes { (w : WordTree) (rest : ListOf Sign) → cursor.old ≡ word_signs w ++ rest →
+        Stops rest →
         OnOk result (Gets (in_word home.now.names.now home.now.place home.now.generators.now w) found.old found.new) }
 {
     if cursor.is_name_alone() {
@@ -49,7 +52,8 @@ fn written_out(
 ) -> Result<Word, NoMemory>
     requires { IsWordAhead cursor.old }
     ensures { (w : WordTree) (rest : ListOf Sign) → cursor.old ≡ word_signs w ++ rest → Stops rest →
-        IfOk result (λ v. IsRead home.now (word_names w) (written home.now.generators.now w) rest found.old v cursor.new found.new) }
+        IfOk result (λ v. IsRead home.now (word_names w)
+        (written home.now.generators.now w) rest found.old v cursor.new found.new) }
 {
     match product(alloc, cursor, home, found) {
         Ok(word) => Ok(word),
@@ -66,9 +70,12 @@ pub(crate) fn product(
     home: &Home,
     found: &mut Found,
 ) -> Result<Word, WordFault>
-    ensures read { (w : WordTree) (rest : ListOf Sign) → cursor.old ≡ word_signs w ++ rest → Stops rest →
-        IfOk result (λ v. IsRead home.now (word_names w) (written home.now.generators.now w) rest found.old v cursor.new found.new) }
-    ensures fits { (w : WordTree) (rest : ListOf Sign) → cursor.old ≡ word_signs w ++ rest → Stops rest →
+    ensures read { (w : WordTree) (rest : ListOf Sign) → cursor.old ≡ word_signs w ++ rest →
+        Stops rest →
+        IfOk result (λ v. IsRead home.now (word_names w)
+        (written home.now.generators.now w) rest found.old v cursor.new found.new) }
+    ensures fits { (w : WordTree) (rest : ListOf Sign) → cursor.old ≡ word_signs w ++ rest →
+        Stops rest →
         WordFits w → IsNotTooLong result }
     ensures shorter { length cursor.new ≤ length cursor.old - 1 }
 {
@@ -83,7 +90,8 @@ pub(crate) fn product(
 
 /// Goes on behind a star, if there is one.
 fn skip_star(cursor: &mut Cursor)
-    ensures skipped { (star : Bool) (f : Factor) (rest : ListOf Sign) → cursor.old ≡ star_signs star ++ (factor_signs f ++ rest) →
+    ensures skipped { (star : Bool) (f : Factor) (rest : ListOf Sign) →
+        cursor.old ≡ star_signs star ++ (factor_signs f ++ rest) →
         cursor.new ≡ factor_signs f ++ rest }
     ensures no_longer { length cursor.new ≤ length cursor.old }
 {
@@ -100,9 +108,12 @@ fn factor(
     home: &Home,
     found: &mut Found,
 ) -> Result<Word, WordFault>
-    ensures read { (f : Factor) (rest : ListOf Sign) → cursor.old ≡ factor_signs f ++ rest → StartsWithoutCaret rest →
-        IfOk result (λ v. IsRead home.now (factor_names f) (factor_written home.now.generators.now f) rest found.old v cursor.new found.new) }
-    ensures fits { (f : Factor) (rest : ListOf Sign) → cursor.old ≡ factor_signs f ++ rest → StartsWithoutCaret rest →
+    ensures read { (f : Factor) (rest : ListOf Sign) → cursor.old ≡ factor_signs f ++ rest →
+        StartsWithoutCaret rest →
+        IfOk result (λ v. IsRead home.now (factor_names f)
+        (factor_written home.now.generators.now f) rest found.old v cursor.new found.new) }
+    ensures fits { (f : Factor) (rest : ListOf Sign) → cursor.old ≡ factor_signs f ++ rest →
+        StartsWithoutCaret rest →
         FactorFits f → IsNotTooLong result }
     ensures shorter { length cursor.new ≤ length cursor.old - 1 }
 {
@@ -123,7 +134,8 @@ struct Exponent {
 }
 
 fn read_exponent(cursor: &mut Cursor) -> Exponent
-    ensures read { (negative : Bool) (n : ℕ) (rest : ListOf Sign) → cursor.old ≡ minus_signs negative ++ the_number n ∷ rest →
+    ensures read { (negative : Bool) (n : ℕ) (rest : ListOf Sign) →
+        cursor.old ≡ minus_signs negative ++ the_number n ∷ rest →
         (result ≡ record { negative = negative; size = n }) × (cursor.new ≡ rest) }
     ensures no_longer { length cursor.new ≤ length cursor.old }
 {
@@ -164,8 +176,10 @@ fn base(
     found: &mut Found,
 ) -> Result<Word, WordFault>
     ensures read { (b : Base) (rest : ListOf Sign) → cursor.old ≡ base_signs b ++ rest →
-        IfOk result (λ v. IsRead home.now (base_names b) (base_written home.now.generators.now b) rest found.old v cursor.new found.new) }
-    ensures fits { (b : Base) (rest : ListOf Sign) → cursor.old ≡ base_signs b ++ rest → BaseFits b → IsNotTooLong result }
+        IfOk result (λ v. IsRead home.now (base_names b)
+        (base_written home.now.generators.now b) rest found.old v cursor.new found.new) }
+    ensures fits { (b : Base) (rest : ListOf Sign) → cursor.old ≡ base_signs b ++ rest →
+        BaseFits b → IsNotTooLong result }
     ensures shorter { length cursor.new ≤ length cursor.old - 1 }
 {
     if cursor.is(Mark::OpenRound) {
@@ -185,9 +199,11 @@ fn name_or_one(
     found: &mut Found,
 ) -> Result<Word, NoMemory>
     ensures name { (n : Named) (rest : ListOf Sign) → cursor.old ≡ base_signs (named n) ++ rest →
-        IfOk result (λ v. IsRead home.now (base_names (named n)) (base_written home.now.generators.now (named n)) rest found.old v cursor.new found.new) }
+        IfOk result (λ v. IsRead home.now (base_names (named n))
+        (base_written home.now.generators.now (named n)) rest found.old v cursor.new found.new) }
     ensures one { (rest : ListOf Sign) → cursor.old ≡ base_signs one ++ rest →
-        IfOk result (λ v. IsRead home.now (base_names one) (base_written home.now.generators.now one) rest found.old v cursor.new found.new) }
+        IfOk result (λ v. IsRead home.now (base_names one)
+        (base_written home.now.generators.now one) rest found.old v cursor.new found.new) }
     ensures shorter { length cursor.new ≤ length cursor.old - 1 }
 {
     if let Some(name) = cursor.take_name() {
@@ -207,8 +223,10 @@ fn in_round(
 ) -> Result<Word, WordFault>
     requires { 1 ≤ length cursor.old }
     ensures read { (w : WordTree) (rest : ListOf Sign) → cursor.old ≡ base_signs (round w) ++ rest →
-        IfOk result (λ v. IsRead home.now (base_names (round w)) (base_written home.now.generators.now (round w)) rest found.old v cursor.new found.new) }
-    ensures fits { (w : WordTree) (rest : ListOf Sign) → cursor.old ≡ base_signs (round w) ++ rest → BaseFits (round w) → IsNotTooLong result }
+        IfOk result (λ v. IsRead home.now (base_names (round w))
+        (base_written home.now.generators.now (round w)) rest found.old v cursor.new found.new) }
+    ensures fits { (w : WordTree) (rest : ListOf Sign) →
+        cursor.old ≡ base_signs (round w) ++ rest → BaseFits (round w) → IsNotTooLong result }
     ensures shorter { length cursor.new ≤ length cursor.old - 1 }
 {
     cursor.skip();
@@ -226,9 +244,13 @@ fn in_square(
     found: &mut Found,
 ) -> Result<Word, WordFault>
     requires { 1 ≤ length cursor.old }
-    ensures read { (u w : WordTree) (rest : ListOf Sign) → cursor.old ≡ base_signs (commutator u w) ++ rest →
-        IfOk result (λ v. IsRead home.now (base_names (commutator u w)) (base_written home.now.generators.now (commutator u w)) rest found.old v cursor.new found.new) }
-    ensures fits { (u w : WordTree) (rest : ListOf Sign) → cursor.old ≡ base_signs (commutator u w) ++ rest → BaseFits (commutator u w) → IsNotTooLong result }
+    ensures read { (u w : WordTree) (rest : ListOf Sign) →
+        cursor.old ≡ base_signs (commutator u w) ++ rest →
+        IfOk result (λ v. IsRead home.now (base_names (commutator u w))
+        (base_written home.now.generators.now (commutator u w)) rest found.old v cursor.new found.new) }
+    ensures fits { (u w : WordTree) (rest : ListOf Sign) →
+        cursor.old ≡ base_signs (commutator u w) ++ rest → BaseFits (commutator u w) →
+        IsNotTooLong result }
     ensures shorter { length cursor.new ≤ length cursor.old - 1 }
 {
     cursor.skip();

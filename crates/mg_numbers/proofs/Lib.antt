@@ -1,16 +1,15 @@
-pub mod BlocksNth
-pub mod BlocksLex
-pub mod ResiduesRank
+mod BlocksNth
+mod BlocksLex
+mod ResiduesRank
 pub mod PermsRank
-pub mod PermsTuples
-pub mod BlocksRank
-pub mod BlocksTuples
+mod PermsTuples
+mod BlocksRank
+mod BlocksTuples
 pub mod ResiduesLaws
 pub mod PermsLaws
-pub mod BlocksSteps
-pub mod PermsSteps
-pub mod BlocksCounts
+mod BlocksSteps
+mod PermsSteps
+mod BlocksCounts
 pub mod TextsPlain
-pub mod TextsSkip
-pub mod TextsSteps
+mod TextsSteps
 pub mod TextsValues

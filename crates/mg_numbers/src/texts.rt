@@ -1,7 +1,8 @@
 //! Texts in bijective numeration: digits from 1 to the base, the most significant first.
-ghost use Rattle.std.specs.Prelude.{◌≡◌, ℕ, ◌+◌, ◌*◌, ◌^◌, ◌<◌, ◌≤◌, ◌↔◌, List, [], ◌∷◌, ◌++◌, length, take, replicate, IfOk, IfSome, IfNone, IsTrue};
+ghost use Rattle.std.specs.Prelude.{◌≡◌, ℕ, ◌+◌, ◌*◌, ◌<◌, ◌≤◌, ◌↔◌, List, [], ◌∷◌, ◌++◌, length, IfOk, IfSome, IfNone, IsTrue};
 ghost use Rattle.mg_numbers.specs.Texts.{IsText, value, IsShortlexBefore};
 
+use crate::blocks::MOST_NUMBER;
 use std::alloc::{AllocError, Global};
 use std::marker::Model;
 
@@ -11,8 +12,8 @@ pub type NoMemory = AllocError;
 /// How many digits a text may have.
 pub const MOST_DIGITS: usize = 4_096;
 
-/// The greatest value of a text that is told as a `u64`.
-const GREATEST: u64 = 1 << 62;
+/// The greatest base of a text that is made of its value.
+pub const MOST_BASE: u32 = 769;
 
 /// A text of at most `MOST_DIGITS` digits, with room for all of them.
 #[derive(Debug, Drop)]
@@ -22,12 +23,14 @@ pub struct Digits {
 
 impl Model for Digits {
     ghost use Rattle.std.specs.Prelude.{ℕ, List, ◌≤◌, length, vec_capacity};
+    ghost use Rattle.mg_numbers.specs.declared.texts.TheConstants.{MOST_DIGITS};
 
     ghost Value = { List ℕ };
 
     ghost view = { λ d. d.digits.items };
 
-    ghost invariant = { λ d. (length d.digits.items ≤ 4096) × (4096 ≤ vec_capacity d.digits) };
+    ghost invariant = { λ d. (length d.digits.items ≤ MOST_DIGITS) ×
+        (MOST_DIGITS ≤ vec_capacity d.digits) };
 }
 
 impl Digits {
@@ -98,44 +101,14 @@ impl Digits {
         }
         self.digits.push_reserved(1);
     }
-
-    /// Goes past all texts of the same length that begin with the first `kept` digits, to the first text after them.
-    pub fn skip(&mut self, kept: usize, base: u32)
-        requires base { 1 ≤ base }
-        requires text { IsText base self.old }
-        requires within { kept ≤ length self.old }
-        requires room { length self.old < MOST_DIGITS }
-        ensures text { IsText base self.new }
-        ensures above { value base self.old < value base self.new }
-        ensures longer { length self.new ≤ length self.old + 1 }
-
-        // All of those texts are passed, and no other text is.
-        ensures past { (t : List ℕ) → IsText base t → length t ≡ length self.old → take kept t ≡ take kept self.old → value base t < value base self.new }
-        ensures between { (t : List ℕ) → IsText base t → value base self.old < value base t → value base t < value base self.new → (length t ≡ length self.old) × (take kept t ≡ take kept self.old) }
-    {
-        let length = self.digits.len();
-        self.digits.truncate(kept);
-        self.advance(base);
-        self.push_ones(length - kept);
-    }
-
-    /// Appends that many digits 1.
-    fn push_ones(&mut self, count: usize)
-        requires { length self.old + count ≤ MOST_DIGITS }
-        ensures { self.new ≡ self.old ++ replicate count 1 }
-    {
-        for _pushed in 0..count {
-            self.push(1);
-        }
-    }
 }
 
 /// Puts the text of value `n` into `out`.
 pub fn text_of(n: u64, base: u32, out: &mut Digits)
     requires least_base { 1 ≤ base }
-    requires greatest_base { base ≤ 769 }
-    requires greatest { n ≤ 2 ^ 62 }
-    requires one_digit { base ≡ 1 → n ≤ 4096 }
+    requires greatest_base { base ≤ MOST_BASE }
+    requires greatest { n ≤ MOST_NUMBER }
+    requires one_digit { base ≡ 1 → n ≤ MOST_DIGITS }
     ensures text { IsText base out.new }
     ensures value { value base out.new ≡ n }
 {
@@ -148,16 +121,16 @@ pub fn text_of(n: u64, base: u32, out: &mut Digits)
     out.digits.reverse();
 }
 
-/// The value of the digits; None exactly where it passes 2^62.
+/// The value of the digits; None exactly where it passes `MOST_NUMBER`.
 pub fn number_of(digits: &[u32], base: u32) -> Option<u64>
     requires { IsText base digits.now }
-    ensures some { IfSome result (λ n. (n ≡ value base digits.now) × (n ≤ 2 ^ 62)) }
-    ensures none { IfNone result (2 ^ 62 < value base digits.now) }
+    ensures some { IfSome result (λ n. (n ≡ value base digits.now) × (n ≤ MOST_NUMBER)) }
+    ensures none { IfNone result (MOST_NUMBER < value base digits.now) }
 {
     let mut value: u64 = 0;
     for &digit in digits {
         let longer = u128::from(value) * u128::from(base) + u128::from(digit);
-        if longer > u128::from(GREATEST) {
+        if longer > u128::from(MOST_NUMBER) {
             return None;
         }
         value = longer as u64;
@@ -168,13 +141,16 @@ pub fn number_of(digits: &[u32], base: u32) -> Option<u64>
 /// Texts over one base and numbers correspond one to one: two texts of one value are one text, and each number is the
 /// value of a text.
 pub fn texts_and_numbers_correspond()
-    ensures one_text { (base : ℕ) (s t : List ℕ) → IsText base s → IsText base t → value base s ≡ value base t → s ≡ t }
-    ensures each_number { (base n : ℕ) → 1 ≤ base → (t : List ℕ) × IsText base t × (value base t ≡ n) }
+    ensures one_text { (base : ℕ) (s t : List ℕ) → IsText base s → IsText base t →
+        value base s ≡ value base t → s ≡ t }
+    ensures each_number { (base n : ℕ) → 1 ≤ base →
+        (t : List ℕ) × IsText base t × (value base t ≡ n) }
 {}
 
 /// The order of values is the order by length, and within a length by the first place of difference.
 pub fn values_are_in_shortlex_order()
-    ensures { (base : ℕ) (s t : List ℕ) → IsText base s → IsText base t → (value base s < value base t ↔ IsShortlexBefore s t) }
+    ensures { (base : ℕ) (s t : List ℕ) → IsText base s → IsText base t →
+        (value base s < value base t ↔ IsShortlexBefore s t) }
 {}
 
 #[cfg(test)]
@@ -222,13 +198,6 @@ mod tests {
         text.push(5);
         text.push(5);
         text.advance(5);
-        assert_eq!(rt; text.as_slice(), [1, 1, 1].as_slice());
-        text.clear();
-        text.push(3);
-        text.push(5);
-        text.skip(1, 5);
-        assert_eq!(rt; text.as_slice(), [4, 1].as_slice());
-        text.skip(0, 5);
         assert_eq!(rt; text.as_slice(), [1, 1, 1].as_slice());
         Ok(())
     }

@@ -1,2 +1,2 @@
-pub mod Testing
+mod Testing
 pub mod Turns

@@ -15,11 +15,13 @@ pub fn plain_turns_are_sound()
 
 /// A search that has just been started has tested nothing.
 pub fn a_first_search_has_tested_nothing()
-    ensures { (procedure : ProcedureOf) (ask : Inquiry) (search : Plain) → IsStarted procedure ask search → IsSearched search }
+    ensures { (procedure : ProcedureOf) (ask : Inquiry) (search : Plain) →
+        IsStarted procedure ask search → IsSearched search }
 {}
 
 /// While a search goes on, no number up to its cursor is accepted, whatever turns it has made.
 pub fn turns_keep_what_is_searched()
-    ensures { (search after : Plain) (units : ℕ) (outcome : OutcomeOf Fact) → search.is_open ≡ true →
+    ensures { (search after : Plain) (units : ℕ) (outcome : OutcomeOf Fact) →
+        search.is_open ≡ true →
         PlainTurn search units outcome after → IsSearched search → IsSearched after }
 {}

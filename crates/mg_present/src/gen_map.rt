@@ -6,12 +6,12 @@ ghost use Rattle.mg_words.specs.Word.{IsOver};
 ghost use Rattle.mg_words.specs.Reduction.{IsFormOf};
 ghost use Rattle.mg_present.specs.Image.{letter_image, image_of};
 
-use mg_words::{Letter, NoMemory, Word, Words, inverse, reduce};
+use mg_words::{Letter, MOST_POWER_LETTERS, NoMemory, Word, Words, inverse, reduce};
 use std::alloc::Global;
 use std::marker::Model;
 
 /// How many letters a word, and each image of a generator, may have where [`image_length`] is asked for.
-pub const MOST_MAPPED_LETTERS: usize = 10_000;
+pub const MOST_MAPPED_LETTERS: usize = MOST_POWER_LETTERS;
 
 /// Takes each generator to a word: the first to the first image, and so on. Maps are compared by their
 /// images.

@@ -11,7 +11,7 @@ pub use ask::{Ask, MOST_GOALS, MOST_SUBGROUP_WORDS};
 pub use gen_map::{GenMap, MOST_MAPPED_LETTERS, image, image_length};
 pub use laws::{
     equal_asks_are_one, sameness_is_an_equivalence, sameness_is_kept, subgroups_are_closed,
-    words_are_the_same,
+    the_limits, words_are_the_same,
 };
 pub use mg_words::NoMemory;
 pub use presentation::{MOST_GENERATORS, MOST_RELATOR_LETTERS, MOST_RELATORS, Presentation, fits};

@@ -4,18 +4,18 @@ ghost use Rattle.std.specs.List.{AllByRecursion};
 ghost use Rattle.mg_words.specs.Word.{letters_of};
 ghost use Rattle.mg_present.specs.Presentation.{Fits, IsRelator};
 
-use mg_words::{NoMemory, Word, Words, is_over, is_reduced};
+use mg_words::{MOST_PLACE, MOST_POWER_LETTERS, NoMemory, Word, Words, is_over, is_reduced};
 use std::alloc::Global;
 use std::marker::Model;
 
 /// How many generators a presentation may have.
-pub const MOST_GENERATORS: u32 = 64;
+pub const MOST_GENERATORS: u32 = MOST_PLACE as u32;
 
 /// How many relators a presentation may have.
 pub const MOST_RELATORS: usize = 256;
 
 /// How many letters a relator may have.
-pub const MOST_RELATOR_LETTERS: usize = 10_000;
+pub const MOST_RELATOR_LETTERS: usize = MOST_POWER_LETTERS;
 
 /// Whether a presentation may have this many generators and these relators.
 pub fn fits(generators: u32, relators: &Words) -> bool

@@ -32,6 +32,47 @@ fn relators_are_reduced_words_over_the_generators(rt: HostRuntime) -> Result<(),
     Ok(())
 }
 
+/// A word of one letter, so many times.
+fn copies(alloc: Global, count: usize) -> Result<Words, NoMemory> {
+    let mut words = Words::new(alloc);
+    for _ in 0..count {
+        words.push(Word::from_letters(alloc, &[A])?)?;
+    }
+    Ok(words)
+}
+
+/// One word of so many letters.
+fn one_power(alloc: Global, count: usize) -> Result<Words, NoMemory> {
+    let mut word = Word::new(alloc);
+    for _ in 0..count {
+        word.push_all(&[A])?;
+    }
+    let mut words = Words::new(alloc);
+    words.push(word)?;
+    Ok(words)
+}
+
+#[test]
+fn a_presentation_has_at_most_64_generators_and_256_relators(rt: HostRuntime) -> Result<(), Fail> {
+    let alloc = rt.alloc();
+    let most = copies(alloc, 256)?;
+    assert!(rt; fits(1, &most));
+    let more = copies(alloc, 257)?;
+    assert!(rt; !fits(1, &more));
+    assert!(rt; fits(64, &most) && !fits(65, &most));
+    Ok(())
+}
+
+#[test]
+fn a_relator_has_at_most_10_000_letters(rt: HostRuntime) -> Result<(), Fail> {
+    let alloc = rt.alloc();
+    let longest = one_power(alloc, 10_000)?;
+    assert!(rt; fits(1, &longest));
+    let longer = one_power(alloc, 10_001)?;
+    assert!(rt; !fits(1, &longer));
+    Ok(())
+}
+
 #[test]
 fn presentations_are_compared_by_content(rt: HostRuntime) -> Result<(), Fail> {
     let alloc = rt.alloc();

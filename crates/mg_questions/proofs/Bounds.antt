@@ -18,7 +18,7 @@ use Rattle.mg_questions.specs.declared.limits.AskFault.{AskFault}
 use Rattle.mg_questions.specs.declared.limits.AskFault.TheVariants.{TooManyGoals}
 use Rattle.mg_questions.specs.Goals.{generators, commutators, conjugates, goals_of, group_of}
 use Rattle.mg_questions.specs.Asking.{IsGiven, AreGiven, IsFit, AreAllowed, AreTooMany, IsFirstTooLong, IsRefused}
-use Rattle.mg_questions.proofs.Forms.{IsAt}
+use Rattle.mg_questions.proofs.Forms.{IsWordAt}
 use Rattle.mg_questions.proofs.Tables.{Each, each_more, each_map, each_generator, each_commutator, each_conjugate, length-generators, length-commutators, length-conjugates}
 
 -- a goal that is not too long
@@ -29,7 +29,7 @@ IsShort w = length w ≤ MOST_GOAL_LETTERS
 abbrev pub images_of : List (List ℤ) → List Held → List (List ℤ)
 images_of images words = map (image_of images) (letters_of words)
 
-pub image_at : (images : List (List ℤ)) (words : List Held) (place : ℕ) (word : Held) → IsAt words place word → get_or (images_of images words) place [] ≡ image_of images word.letters
+pub image_at : (images : List (List ℤ)) (words : List Held) (place : ℕ) (word : Held) → IsWordAt words place word → get_or (images_of images words) place [] ≡ image_of images word.letters
 image_at images words place word at =
     get_or-map (image_of images) (letters_of words) place [] [] (omega (arith, at.within, length-map words (λ (w : Held). w.letters)))
     ∙ ap (image_of images) (get_or-map (λ (w : Held). w.letters) words place word [] at.within ∙ ap (λ (w : Held). w.letters) (sym at.is))
@@ -38,7 +38,7 @@ length-images_of : (images : List (List ℤ)) (words : List Held) → length (im
 length-images_of images words = length-map (letters_of words) (image_of images) ∙ length-map words (λ (w : Held). w.letters)
 
 -- the first long image, of a few words
-pub first_long : (images : List (List ℤ)) (words : List Held) (place : ℕ) (word : Held) (letters : ℕ) → length words ≤ MOST_GOALS → IsAt words place word → letters ≡ length (image_of images word.letters) → MOST_GOAL_LETTERS < letters
+pub first_long : (images : List (List ℤ)) (words : List Held) (place : ℕ) (word : Held) (letters : ℕ) → length words ≤ MOST_GOALS → IsWordAt words place word → letters ≡ length (image_of images word.letters) → MOST_GOAL_LETTERS < letters
     → ((k : ℕ) → k < place → IsShort (get_or (images_of images words) k [])) → IsFirstTooLong (images_of images words) place letters
 first_long images words place word letters few at is long before = record {
   few = omega (arith, length-images_of images words);

@@ -1,9 +1,9 @@
 pub mod Agreement
 pub mod Asked
 pub mod Bounds
-pub mod Commuting
-pub mod Conjugation
-pub mod Exact
-pub mod Forms
-pub mod Mapping
+mod Commuting
+mod Conjugation
+mod Exact
+mod Forms
+mod Mapping
 pub mod Tables

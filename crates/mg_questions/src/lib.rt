@@ -9,7 +9,7 @@ mod lists;
 mod question;
 
 pub use asking::ask_of;
-pub use laws::{asks_keep_the_meaning, equal_questions_are_one};
+pub use laws::{asks_keep_the_meaning, equal_questions_are_one, the_limits};
 pub use limits::AskFault;
 pub use mg_words::NoMemory;
 pub use question::{MOST_GOAL_LETTERS, MOST_WORD_LETTERS, Question, is_fit};

@@ -5,10 +5,10 @@ ghost use Rattle.mg_words.specs.Word.{letters_of};
 ghost use Rattle.mg_questions.specs.Asking.{AreGiven, IsFit, IsGiven};
 
 use mg_present::{GenMap, MOST_SUBGROUP_WORDS, Presentation};
-use mg_words::{Word, Words, is_over, is_reduced};
+use mg_words::{MOST_POWER_LETTERS, Word, Words, is_over, is_reduced};
 
 /// How many letters a word may have that a question names.
-pub const MOST_WORD_LETTERS: usize = 10_000;
+pub const MOST_WORD_LETTERS: usize = MOST_POWER_LETTERS;
 
 /// How many letters a goal may have before it is reduced.
 pub const MOST_GOAL_LETTERS: u64 = 40_000;

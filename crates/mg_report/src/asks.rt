@@ -19,7 +19,8 @@ fn push_group(
     names: &[List<u8>],
     relators: &[Word],
 ) -> Result<(), NoMemory>
-    ensures { OnOk result (out.new.items ≡ out.old.items ++ group_text names.now (letters_of relators.now)) }
+    ensures { OnOk result (out.new.items
+        ≡ out.old.items ++ group_text names.now (letters_of relators.now)) }
 {
     push_bytes(out, b"group <")?;
     push_names(out, names)?;
@@ -37,7 +38,8 @@ fn push_words_line(
     names: &[List<u8>],
     words: &Words,
 ) -> Result<(), NoMemory>
-    ensures { OnOk result (out.new.items ≡ out.old.items ++ words_text title.now names.now words.now) }
+    ensures { OnOk result (out.new.items
+        ≡ out.old.items ++ words_text title.now names.now words.now) }
 {
     push_bytes(out, title)?;
     push_piece(out, b"<")?;
@@ -68,7 +70,8 @@ pub(crate) fn push_verdict(
     names: &[List<u8>],
     verdict: &Verdict,
 ) -> Result<(), NoMemory>
-    ensures { OnOk result (out.new.items ≡ out.old.items ++ verdict_line names.now (verdict_of verdict.now)) }
+    ensures { OnOk result (out.new.items
+        ≡ out.old.items ++ verdict_line names.now (verdict_of verdict.now)) }
 {
     push_bytes(out, print(alloc, verdict, names)?.as_slice())?;
     push_bytes(out, b"\n")

@@ -100,7 +100,8 @@ fn push_end(alloc: Global, out: &mut Vec<u8>, end: End) -> Result<(), NoMemory>
 
 /// Pushes which quantity would pass its limit.
 fn push_full(alloc: Global, out: &mut Vec<u8>, what: Limit, count: u64) -> Result<(), NoMemory>
-    ensures { OnOk result (out.new.items ≡ out.old.items ++ spaced (codes "full" ∷ limit_piece what ∷ decimal count ∷ [])) }
+    ensures { OnOk result (out.new.items
+        ≡ out.old.items ++ spaced (codes "full" ∷ limit_piece what ∷ decimal count ∷ [])) }
 {
     push_piece(out, b"full")?;
     push_piece(out, limit_bytes(what))?;
@@ -132,7 +133,8 @@ fn push_units(alloc: Global, out: &mut Vec<u8>, account: Account) -> Result<(), 
 
 /// Pushes the lines of searches.
 fn push_searches(alloc: Global, out: &mut Vec<u8>, searches: &[SearchLine]) -> Result<(), NoMemory>
-    ensures { OnOk result (out.new.items ≡ out.old.items ++ flat_map search_text (map search_of searches.now)) }
+    ensures { OnOk result (out.new.items
+        ≡ out.old.items ++ flat_map search_text (map search_of searches.now)) }
 {
     for search in searches {
         push_search(alloc, out, search)?;
@@ -146,7 +148,8 @@ fn push_standing(
     out: &mut Vec<u8>,
     verdict: Option<(u64, &Verdict)>,
 ) -> Result<(), NoMemory>
-    ensures { OnOk result (out.new.items ≡ out.old.items ++ spaced (standing (found_of verdict.entry))) }
+    ensures { OnOk result (out.new.items
+        ≡ out.old.items ++ spaced (standing (found_of verdict.entry))) }
 {
     match verdict {
         None => push_piece(out, b"OPEN"),
@@ -165,7 +168,8 @@ fn push_question(
     name: &[u8],
     verdict: Option<(u64, &Verdict)>,
 ) -> Result<(), NoMemory>
-    ensures { OnOk result (out.new.items ≡ out.old.items ++ question_text name.now (found_of verdict.entry)) }
+    ensures { OnOk result (out.new.items
+        ≡ out.old.items ++ question_text name.now (found_of verdict.entry)) }
 {
     push_bytes(out, b"question")?;
     push_piece(out, name)?;
@@ -181,7 +185,8 @@ fn push_found(
     names: &[List<u8>],
     verdict: Option<(u64, &Verdict)>,
 ) -> Result<(), NoMemory>
-    ensures { OnOk result (out.new.items ≡ out.old.items ++ found_line names.now (found_of verdict.entry)) }
+    ensures { OnOk result (out.new.items
+        ≡ out.old.items ++ found_line names.now (found_of verdict.entry)) }
 {
     match verdict {
         None => Ok(()),
@@ -208,7 +213,8 @@ pub fn report(
     purse: u64,
     blocks: &[QuestionBlock],
 ) -> Result<Vec<u8>, NoMemory>
-    ensures { IfOk result (λ text. text.items ≡ report_text funded purse (map block_of blocks.now)) }
+    ensures { IfOk result (λ text. text.items
+        ≡ report_text funded purse (map block_of blocks.now)) }
 {
     let mut out = Vec::new(alloc);
     push_bytes(&mut out, b"report\nfunded")?;
@@ -222,7 +228,8 @@ pub fn report(
 
 /// Pushes the lines of questions.
 fn push_blocks(alloc: Global, out: &mut Vec<u8>, blocks: &[QuestionBlock]) -> Result<(), NoMemory>
-    ensures { OnOk result (out.new.items ≡ out.old.items ++ flat_map block_text (map block_of blocks.now)) }
+    ensures { OnOk result (out.new.items
+        ≡ out.old.items ++ flat_map block_text (map block_of blocks.now)) }
 {
     for block in blocks {
         push_block(alloc, out, block)?;

@@ -33,7 +33,8 @@ pub fn report_facts(alloc: Global, facts: &[FactBlock]) -> Result<Vec<u8>, NoMem
 
 /// Pushes the lines of facts, numbered from 1.
 fn push_facts(alloc: Global, out: &mut Vec<u8>, facts: &[FactBlock]) -> Result<(), NoMemory>
-    ensures { OnOk result (out.new.items ≡ out.old.items ++ numbered fact_text 1 (map fact_of facts.now)) }
+    ensures { OnOk result (out.new.items
+        ≡ out.old.items ++ numbered fact_text 1 (map fact_of facts.now)) }
 {
     for (place, fact) in facts.iter().enumerate() {
         push_fact(alloc, out, place as u64 + 1, fact)?;

@@ -60,7 +60,8 @@ pub fn report_log(
     entries: &[EntryLine],
     sums: &[SumLine],
 ) -> Result<Vec<u8>, NoMemory>
-    ensures { IfOk result (λ text. text.items ≡ log_text (map entry_of entries.now) (map sum_of sums.now)) }
+    ensures { IfOk result (λ text. text.items
+        ≡ log_text (map entry_of entries.now) (map sum_of sums.now)) }
 {
     let mut out = Vec::new(alloc);
     push_bytes(&mut out, b"log\n")?;
@@ -72,7 +73,8 @@ pub fn report_log(
 
 /// Pushes the lines of entries, numbered from 1.
 fn push_entries(alloc: Global, out: &mut Vec<u8>, entries: &[EntryLine]) -> Result<(), NoMemory>
-    ensures { OnOk result (out.new.items ≡ out.old.items ++ numbered entry_text 1 (map entry_of entries.now)) }
+    ensures { OnOk result (out.new.items
+        ≡ out.old.items ++ numbered entry_text 1 (map entry_of entries.now)) }
 {
     for (place, entry) in entries.iter().enumerate() {
         push_entry(alloc, out, place as u64 + 1, entry)?;
@@ -88,7 +90,8 @@ fn push_entry(
     number: u64,
     entry: &EntryLine,
 ) -> Result<(), NoMemory>
-    ensures { OnOk result (out.new.items ≡ out.old.items ++ entry_text number (entry_of entry.now)) }
+    ensures { OnOk result (out.new.items
+        ≡ out.old.items ++ entry_text number (entry_of entry.now)) }
 {
     push_bytes(out, b"entry")?;
     push_number(alloc, out, number as u128)?;
@@ -99,7 +102,8 @@ fn push_entry(
 
 /// Pushes which turn an entry is of, and its units.
 fn push_turn(alloc: Global, out: &mut Vec<u8>, entry: &EntryLine) -> Result<(), NoMemory>
-    ensures { OnOk result (out.new.items ≡ out.old.items ++ spaced (turn_pieces (entry_of entry.now))) }
+    ensures { OnOk result (out.new.items
+        ≡ out.old.items ++ spaced (turn_pieces (entry_of entry.now))) }
 {
     push_count(alloc, out, b"pass", entry.pass as u128)?;
     push_count(alloc, out, b"search", entry.search as u128)?;
@@ -122,7 +126,8 @@ fn push_fate(alloc: Global, out: &mut Vec<u8>, fate: Fate) -> Result<(), NoMemor
 
 /// Pushes the lines of sums.
 fn push_sums(alloc: Global, out: &mut Vec<u8>, sums: &[SumLine]) -> Result<(), NoMemory>
-    ensures { OnOk result (out.new.items ≡ out.old.items ++ flat_map sum_text (map sum_of sums.now)) }
+    ensures { OnOk result (out.new.items
+        ≡ out.old.items ++ flat_map sum_text (map sum_of sums.now)) }
 {
     for sum in sums {
         push_sum(alloc, out, sum)?;

@@ -1,14 +1,14 @@
 mod Cuts
-pub mod Rests
-pub mod Written
-pub mod Unique
-pub mod Reaches
-pub mod Standing
-pub mod Steps
-pub mod Words
-pub mod Taken
-pub mod Names
-pub mod Listing
+mod Rests
+mod Written
+mod Unique
+mod Reaches
+mod Standing
+mod Steps
+mod Words
+mod Taken
+mod Names
+mod Listing
 pub mod Trees
 mod LineTokens
 mod LineLexemes
@@ -17,3 +17,5 @@ mod Causes
 pub mod Scripts
 mod LinesRead
 mod LineByLine
+mod Statements
+pub mod Total

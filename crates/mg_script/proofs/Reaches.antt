@@ -48,7 +48,7 @@ piece_known _ _ _ _ _ _ (one_sign_too_many kind x p at over) = refl
 piece_known _ _ _ _ _ _ (one_word_too_many kind left w p at over) = refl
 piece_known _ _ _ _ _ _ (in_word kind left w p q c at shown) = event_known shown.event q c shown.shows
 piece_known _ _ _ _ _ _ (long_relation kind u v p whole long) = refl
-piece_known _ _ _ _ _ _ (too_many_letters kind left w p whole many) = refl
+piece_known _ _ _ _ _ _ (too_many_letters kind left w p whole many apart) = refl
 
 known : (counts : Counts) (xs : List Lexeme) (p : ℕ) (c : Cause) → Stands counts xs p c → IsKnown c
 known counts xs p c stands =

@@ -10,8 +10,8 @@ use Rattle.mg_words.specs.declared.procedure.Procedure.TheVariants as procedure
 use Rattle.mg_script.specs.declared.counted.Counted.{Counted}
 use Rattle.mg_script.specs.declared.counted.Counted.TheVariants as counted
 use Rattle.mg_script.specs.declared.form.Property.TheVariants as property
-use Rattle.mg_script.specs.Statement.{Relation, relator, equation, Piece, sign, term, pieces_lexemes, counted_name, a_word, the_mark, listed_on, listed, relation_pieces, member_pieces, arrow_pieces, name_alone}
-use Rattle.mg_script.specs.Grammar.{Begins, CanEnd, Item, listed_name, listed_word, listed_relation, listed_arrow, Class, this, a_number, a_procedure, a_property, IsIn, relation_then, Rest, end, sign_then, word_then, either, more, mark_then, item_then, comma_then, list_then, Reads, reads_end, reads_sign, reads_word, reads_first, reads_second, reads_more, reads_last}
+use Rattle.mg_script.specs.Statement.{Relation, relator, equation, Piece, sign, term, pieces_lexemes, counted_name, a_word, the_mark, listed_on, listed, relation_pieces, member_pieces, arrow_pieces}
+use Rattle.mg_script.specs.Grammar.{Begins, CanEnd, Item, listed_name, listed_word, listed_relation, listed_arrow, Class, this, a_number, a_procedure, a_property, IsIn, relation_then, Rest, end, sign_then, word_then, either, either_by_two, more, mark_then, item_then, comma_then, list_then, Reads, reads_end, reads_sign, reads_word, reads_first, reads_second, reads_one, reads_other, reads_more, reads_last}
 
 -- a lexeme of a class
 pub one_of : (c : Class) → (x : Lexeme) × IsIn c x
@@ -20,12 +20,17 @@ one_of a_number = (lexeme.Number 0, (0, refl))
 one_of a_procedure = (lexeme.Keyword keyword.Derive, (procedure.Derive, refl))
 one_of a_property = (lexeme.Keyword keyword.Trivial, (property.Trivial, refl))
 
+-- the word that is a name alone
+abbrev pub name_alone : Word
+name_alone = single (bare name)
+
 -- some pieces are such a rest
 pub sample : (r : Rest) → (ps : List Piece) × Reads r ps
 sample end = ([], reads_end)
 sample (sign_then kind c r) = let x = one_of c in let s = sample r in (sign kind x.0 ∷ s.0, reads_sign kind c r x.0 s.0 x.1 s.1)
 sample (word_then kind left f) = let s = sample (f name_alone) in (term kind left name_alone ∷ s.0, reads_word kind left f name_alone s.0 s.1)
 sample (either a b) = let s = sample a in (s.0, reads_first a b s.0 s.1)
+sample (either_by_two a b) = let s = sample a in (s.0, reads_one a b s.0 s.1)
 sample (more i r) = let s = sample r in (s.0, reads_last i r s.0 s.1)
 
 -- the first lexeme of a word
@@ -59,6 +64,8 @@ reads_begins _ _ (reads_word kind left f w ps reads) x ys e =
     let same : h.0 ≡ x = cc in subst BeginsBase same h.3
 reads_begins _ _ (reads_first a b ps reads) x ys e = inl (reads_begins a ps reads x ys e)
 reads_begins _ _ (reads_second a b ps reads) x ys e = inr (reads_begins b ps reads x ys e)
+reads_begins _ _ (reads_one a b ps reads) x ys e = inl (reads_begins a ps reads x ys e)
+reads_begins _ _ (reads_other a b ps reads) x ys e = inr (reads_begins b ps reads x ys e)
 reads_begins _ _ (reads_more i r ps reads) x ys e = inl (reads_begins (comma_then i r) ps reads x ys e)
 reads_begins _ _ (reads_last i r ps reads) x ys e = inr (reads_begins r ps reads x ys e)
 
@@ -71,6 +78,8 @@ reads_nothing _ _ (reads_word kind left f w ps reads) e =
     absurd cc
 reads_nothing _ _ (reads_first a b ps reads) e = inl (reads_nothing a ps reads e)
 reads_nothing _ _ (reads_second a b ps reads) e = inr (reads_nothing b ps reads e)
+reads_nothing _ _ (reads_one a b ps reads) e = inl (reads_nothing a ps reads e)
+reads_nothing _ _ (reads_other a b ps reads) e = inr (reads_nothing b ps reads e)
 reads_nothing _ _ (reads_more i r ps reads) e = absurd (reads_nothing (comma_then i r) ps reads e)
 reads_nothing _ _ (reads_last i r ps reads) e = reads_nothing r ps reads e
 
@@ -103,6 +112,10 @@ word_inv _ _ _ _ (reads_word kind left f w ps reads) = record { word = w; others
 pub either_inv : (a b : Rest) (ps : List Piece) → Reads (either a b) ps → Reads a ps ⊎ Reads b ps
 either_inv _ _ _ (reads_first a b ps reads) = inl reads
 either_inv _ _ _ (reads_second a b ps reads) = inr reads
+
+pub by_two_inv : (a b : Rest) (ps : List Piece) → Reads (either_by_two a b) ps → Reads a ps ⊎ Reads b ps
+by_two_inv _ _ _ (reads_one a b ps reads) = inl reads
+by_two_inv _ _ _ (reads_other a b ps reads) = inr reads
 
 pub more_cases : (i : Item) (r : Rest) (ps : List Piece) → Reads (more i r) ps → Reads (comma_then i r) ps ⊎ Reads r ps
 more_cases _ _ _ (reads_more i r ps reads) = inl reads

@@ -1,5 +1,5 @@
 -- What has been read of a statement, and the first cause where nothing goes on with it.
-use Rattle.std.proofs.Common.{◌≡◌, ◌⊎◌, inl, inr, ⊎_elim, ℕ, zero, suc, ◌+◌, ◌-◌, ◌<◌, ◌≤◌, Option, List, [], ◌∷◌, ◌++◌, length, take, refl, sym, ap, subst, ◌∙◌, arith, append_assoc, append-nil, length-append}
+use Rattle.std.proofs.Common.{◌≡◌, ◌⊎◌, inl, inr, ⊎_elim, ℕ, zero, suc, ◌+◌, ◌-◌, ◌<◌, ◌≤◌, Option, None, List, [], ◌∷◌, ◌++◌, length, take, refl, sym, ap, subst, ◌∙◌, arith, append_assoc, append-nil, length-append}
 use Rattle.std.proofs.Math.Seq.{take-append_seam, take-append-add}
 use Rattle.std.proofs.lemmas.Bool.{cases_lt}
 use Rattle.std.proofs.lemmas.List.{append_cancel_left}
@@ -53,11 +53,14 @@ shows_from counts xs front _ _ _ (one_sign_too_many kind x p at_first many) = om
 shows_from counts xs front _ _ _ (one_word_too_many kind left w p at_first many) = omega (arith, at_first)
 shows_from counts xs front _ _ _ (in_word kind left w p q c at_place shown) = omega (arith, at_place)
 shows_from counts xs front _ _ _ (long_relation kind u v p whole long) = omega (arith, whole.last, word_length v)
-shows_from counts xs front _ _ _ (too_many_letters kind left w p whole many) = omega (arith, whole.last, word_length w)
+shows_from counts xs front _ _ _ (too_many_letters kind left w p whole many apart) = omega (arith, whole.last, word_length w)
 
-sign_shows : (counts : Counts) (xs : List Lexeme) (front : List Piece) (kind : Option Counted) (x : Lexeme) (q : ℕ) (c : Cause) → Shows counts xs front (sign kind x) q c →
+pub sign_shows : (counts : Counts) (xs : List Lexeme) (front : List Piece) (kind : Option Counted) (x : Lexeme) (q : ℕ) (c : Cause) → Shows counts xs front (sign kind x) q c →
     (q ≡ length (pieces_lexemes front)) × IsOneTooMany counts front kind × (c ≡ cause.TooMany)
 sign_shows counts xs front _ _ _ _ (one_sign_too_many kind x p at_first many) = (at_first, many, refl)
+
+pub sign_quiet : (counts : Counts) (xs : List Lexeme) (front : List Piece) (x : Lexeme) (q : ℕ) (c : Cause) → Shows counts xs front (sign None x) q c → ⊥
+sign_quiet counts xs front x q c shows = (sign_shows counts xs front None x q c shows).1
 
 -- the number of a cause that a piece shows is that of a word that is too long or more
 pub shows_number : (counts : Counts) (xs : List Lexeme) (front : List Piece) (p : Piece) (q : ℕ) (c : Cause) → Shows counts xs front p q c → 6 ≤ cause_number c
@@ -69,7 +72,7 @@ shows_number counts xs front _ _ _ (in_word kind left w p q c at_place shown) = 
     event_number (opens place depth) j d shows = subst (λ a. 6 ≤ cause_number a) (sym shows.0) (omega arith)
     event_number (ends count letters) j d shows = subst (λ a. 6 ≤ cause_number a) (sym shows.0) (omega arith)
 shows_number counts xs front _ _ _ (long_relation kind u v p whole long) = omega arith
-shows_number counts xs front _ _ _ (too_many_letters kind left w p whole many) = omega arith
+shows_number counts xs front _ _ _ (too_many_letters kind left w p whole many apart) = omega arith
 
 pub alike_self : (xs : List Lexeme) → BeginAlike xs xs
 alike_self [] = tt

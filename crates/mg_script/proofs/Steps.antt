@@ -1,5 +1,5 @@
 -- What a step of the reader brings.
-use Rattle.std.proofs.Common.{◌≡◌, ◌≤◌, ◌⊎◌, inl, inr, ⊎_elim, ◌↔◌, ℕ, ◌+◌, ◌<◌, Bool, true, false, IsTrue, Option, Some, None, Result, Ok, Err, List, [], ◌∷◌, ◌++◌, length, filter, get_or, suc, drop, drop-cons, refl, sym, ap, subst, ◌∙◌, arith, length-append}
+use Rattle.std.proofs.Common.{◌≡◌, ◌≤◌, ◌⊎◌, inl, inr, ⊎_elim, ◌↔◌, ℕ, ◌+◌, ◌<◌, Bool, true, false, IsTrue, Option, Some, None, Result, Ok, Err, List, [], ◌∷◌, ◌++◌, length, filter, get_or, zero, suc, drop, drop-cons, refl, sym, ap, subst, ◌∙◌, arith, length-append}
 use Rattle.std.proofs.Math.Seq.{drop-append_seam}
 use Rattle.std.specs.List.{AllByRecursion}
 use Rattle.std.proofs.lemmas.Bool.{cases_lt, eqb-true}
@@ -19,8 +19,8 @@ use Rattle.mg_script.specs.declared.sign.Sign.{Sign}
 use Rattle.mg_script.specs.Statement.{Piece, sign, term, pieces_lexemes}
 use Rattle.mg_script.specs.Count.{count_of, is_one, is_counted, how_many, piece_letters, letters_in, Adds, limit_of, counted_number, IsBounded, AreWithinLimits}
 use Rattle.mg_script.specs.Cause.{IsOneTooMany, IsFirstCause}
-use Rattle.mg_script.specs.Grammar.{Class, IsIn, Rest, end, sign_then, word_then, either, Begins}
-use Rattle.mg_script.specs.Reader.{Start, Stand, Knows, Brings, Chooses, class_of, signs_then, IsNext, BeginsWord, AddsOne, numbers, Finishes}
+use Rattle.mg_script.specs.Grammar.{Class, IsIn, a_property, Rest, end, sign_then, word_then, either, asked_rest, Begins}
+use Rattle.mg_script.specs.Reader.{Start, Stand, Knows, Brings, Chooses, class_of, signs_then, IsNext, IsPropertyNext, IsWordThen, any_word, no_property, BeginsWord, AddsOne, numbers, Finishes}
 use Rattle.mg_script.proofs.Standing.{pieces_push, Misses, stuck, sign_full, sign_passed, first_chosen, second_chosen, finished}
 
 pub is_not : {A : Type 0} (b : Bool) → b ≡ false → IsTrue b ↔ A → A → ⊥
@@ -152,8 +152,43 @@ misses_word : (kind : Option Counted) (left : Option Word) (f : Word → Rest) (
 misses_word kind left f [] other = λ none. none
 misses_word kind left f (x ∷ xs) other = λ base. other x xs refl base
 
-pub no_word : (s : Start) (t : Rest) (now : Reader) (knows : Knows s t now) (kind : Option Counted) (left : Option Word) (f : Word → Rest) → ¬ BeginsWord now → Misses (word_then kind left f) knows.ahead
-no_word s t now knows kind left f other = misses_word kind left f knows.ahead (λ x xs e base. other (x, xs, ahead_is s t now knows ∙ e, base))
+misses_asked : (zs : List Lexeme) → ((x : Lexeme) (xs : List Lexeme) → zs ≡ x ∷ xs → BeginsBase x → ⊥) → Misses asked_rest zs
+misses_asked [] other = λ can. ⊎_elim (λ none. none) (λ none. none) can
+misses_asked (x ∷ xs) other = λ begins. ⊎_elim (λ is_name. other x xs refl (subst BeginsBase (sym is_name) tt)) (λ base. other x xs refl base) begins
+
+misses_word_then : (ahead : List Lexeme) (kind : Option Counted) (left : Option Word) (f : Word → Rest) (r : Rest) → IsWordThen ahead kind left f r → (zs : List Lexeme) →
+    ((x : Lexeme) (xs : List Lexeme) → zs ≡ x ∷ xs → BeginsBase x → ⊥) → Misses r zs
+misses_word_then ahead _ _ _ _ (any_word kind left f) zs other = misses_word kind left f zs other
+misses_word_then ahead _ _ _ _ (no_property apart) zs other = misses_asked zs other
+
+pub no_word : (s : Start) (t : Rest) (now : Reader) (knows : Knows s t now) (kind : Option Counted) (left : Option Word) (f : Word → Rest) → IsWordThen (drop now.place now.lexemes.now) kind left f t →
+    ¬ BeginsWord now → Misses t knows.ahead
+no_word s t now knows kind left f is_word other =
+    misses_word_then (drop now.place now.lexemes.now) kind left f t is_word knows.ahead (λ x xs e base. other (x, xs, ahead_is s t now knows ∙ e, base))
+
+-- whether a name and a property come next
+behind_one : (p : ℕ) (xs : List Lexeme) (x : Lexeme) (rest : List Lexeme) → drop p xs ≡ x ∷ rest → drop (p + 1) xs ≡ rest
+behind_one zero xs x rest e = ap (drop 1) e
+behind_one (suc p) [] x rest e = absurd cc
+behind_one (suc p) (y ∷ ys) x rest e = let one : suc p + 1 ≡ suc (p + 1) = omega arith in ap (λ n. drop n (y ∷ ys)) one ∙ behind_one p ys x rest e
+
+pub property_tells : (p : ℕ) (xs : List Lexeme) (b : Bool) (x : Lexeme) (rest : List Lexeme) → drop p xs ≡ x ∷ rest → x ≡ lexeme.Name → (y : Lexeme) (ys : List Lexeme) → drop (p + 1) xs ≡ y ∷ ys →
+    IsTrue b ↔ IsIn a_property y → IsTrue b ↔ IsPropertyNext (drop p xs)
+property_tells p xs b x rest e is_name y ys f says =
+    let behind : rest ≡ y ∷ ys = sym (behind_one p xs x rest e) ∙ f in (
+      λ on. (y, ys, e ∙ ap (λ u. u ∷ rest) is_name ∙ ap (λ us. lexeme.Name ∷ us) behind, says.0 on),
+      λ next.
+          let list : x ∷ rest ≡ lexeme.Name ∷ next.0 ∷ next.1 = sym e ∙ next.2 in
+          let same : y ≡ next.0 = cc in
+          says.1 (subst (IsIn a_property) (sym same) next.3),
+    )
+
+pub property_missing : (p : ℕ) (xs : List Lexeme) (x : Lexeme) (rest : List Lexeme) → drop p xs ≡ x ∷ rest → drop (p + 1) xs ≡ [] → IsTrue false ↔ IsPropertyNext (drop p xs)
+property_missing p xs x rest e f =
+    let behind : rest ≡ [] = sym (behind_one p xs x rest e) ∙ f in (
+      λ on. absurd cc,
+      λ next. let list : x ∷ rest ≡ lexeme.Name ∷ next.0 ∷ next.1 = sym e ∙ next.2 in absurd cc,
+    )
 
 -- where nothing goes on
 pub unexpected : (s : Start) (r : Rest) (now : Reader) (knows : Knows s r now) → Misses r knows.ahead → IsFirstCause s.counts s.lexemes now.place cause.Unexpected
@@ -212,7 +247,7 @@ knows_second s a b now knows misses = record {
   within = knows.within;
 }
 
-none_added : (counts : Counts) → AddsOne None counts counts
+pub none_added : (counts : Counts) → AddsOne None counts counts
 none_added counts k = omega arith
 
 pub takes_first : (s : Start) (k : Class) (a b : Rest) (now : Reader) → Knows s (either (sign_then None k a) b) now → IsNext now k →

@@ -17,9 +17,9 @@ use Rattle.mg_script.specs.declared.sign.Role.{Role}
 use Rattle.mg_script.specs.declared.sign.Role.TheVariants as role
 use Rattle.mg_script.specs.Statement.{term, pieces_lexemes}
 use Rattle.mg_script.specs.Cause.{IsOneTooMany, IsFirstCause}
-use Rattle.mg_script.specs.Grammar.{Rest, word_then}
+use Rattle.mg_script.specs.Grammar.{Rest}
 use Rattle.mg_script.specs.Count.{left_letters}
-use Rattle.mg_script.specs.Reader.{Start, Knows, BeginsWord, AddsOne, IsOf, kind_of, IsLeft, numbers}
+use Rattle.mg_script.specs.Reader.{Start, Knows, IsWordThen, BeginsWord, AddsOne, IsOf, kind_of, IsLeft, numbers}
 use Rattle.mg_script.proofs.Standing.{pieces_push, word_length}
 use Rattle.mg_script.proofs.Steps.{adds_piece, bounded_push, within_one, full_since, room_since, same_count, ahead_is}
 use Rattle.mg_script.proofs.Words.{word_taken, word_passed, word_long, word_many, word_refused, word_full}
@@ -30,22 +30,27 @@ none_left role.Plain left counts is_left full = is_left
 none_left (role.Counted k) left counts is_left full = is_left
 none_left (role.RightSide n) left counts is_left full = absurd full
 
-pub word_over : (s : Start) (r : Role) (left : Option Word) (f : Word → Rest) (now : Reader) → IsLeft r left → Knows s (word_then (kind_of r) left f) now → BeginsWord now → IsOneTooMany now.counts [] (kind_of r) →
-    IsFirstCause s.counts s.lexemes now.place cause.TooMany
-word_over s r left f now is_left knows begins full =
-    let rest = word_then (kind_of r) left f in
-    let e : knows.ahead ≡ begins.0 ∷ begins.1 = sym (ahead_is s rest now knows) ∙ begins.2 in
-    subst (λ p. IsFirstCause s.counts s.lexemes p cause.TooMany) (sym knows.place)
-    (word_full s (kind_of r) left f knows.done knows.ahead knows.stand (full_since s.counts now.counts knows.done (kind_of r) knows.adds full)
-    (none_left r left now.counts is_left full) begins.0 begins.1 e begins.3)
+-- by what is ahead
+ahead_word : (s : Start) (kind : Option Counted) (left : Option Word) (f : Word → Rest) (r : Rest) (now : Reader) → IsWordThen (drop now.place now.lexemes.now) kind left f r → (knows : Knows s r now) →
+    IsWordThen knows.ahead kind left f r
+ahead_word s kind left f r now is_word knows = subst (λ zs. IsWordThen zs kind left f r) (ahead_is s r now knows) is_word
 
-pub word_wrong : (s : Start) (kind : Option Counted) (left : Option Word) (f : Word → Rest) (now : Reader) → Knows s (word_then kind left f) now → BeginsWord now → ¬ IsOneTooMany now.counts [] kind →
+pub word_over : (s : Start) (role : Role) (left : Option Word) (f : Word → Rest) (r : Rest) (now : Reader) → IsLeft role left → IsWordThen (drop now.place now.lexemes.now) (kind_of role) left f r → Knows s r now →
+    BeginsWord now → IsOneTooMany now.counts [] (kind_of role) → IsFirstCause s.counts s.lexemes now.place cause.TooMany
+word_over s role left f r now is_left is_word knows begins full =
+    let e : knows.ahead ≡ begins.0 ∷ begins.1 = sym (ahead_is s r now knows) ∙ begins.2 in
+    subst (λ p. IsFirstCause s.counts s.lexemes p cause.TooMany) (sym knows.place)
+    (word_full s (kind_of role) left f r knows.done knows.ahead (ahead_word s (kind_of role) left f r now is_word knows) knows.stand (full_since s.counts now.counts knows.done (kind_of role) knows.adds full)
+    (none_left role left now.counts is_left full) begins.0 begins.1 e begins.3)
+
+pub word_wrong : (s : Start) (kind : Option Counted) (left : Option Word) (f : Word → Rest) (r : Rest) (now : Reader) → IsWordThen (drop now.place now.lexemes.now) kind left f r → Knows s r now →
+    BeginsWord now → ¬ IsOneTooMany now.counts [] kind →
     (q : ℕ) (c : Cause) → words.IsFirstCause (drop now.place now.lexemes.now) q c → IsFirstCause s.counts s.lexemes (now.place + q) c
-word_wrong s kind left f now knows begins room q c first =
-    let same = ahead_is s (word_then kind left f) now knows in
+word_wrong s kind left f r now is_word knows begins room q c first =
+    let same = ahead_is s r now knows in
     let e : knows.ahead ≡ begins.0 ∷ begins.1 = sym same ∙ begins.2 in
     subst (λ n. IsFirstCause s.counts s.lexemes (n + q) c) (sym knows.place)
-    (word_refused s kind left f knows.done knows.ahead knows.stand (room_since s.counts now.counts knows.done kind knows.adds room) q c
+    (word_refused s kind left f r knows.done knows.ahead (ahead_word s kind left f r now is_word knows) knows.stand (room_since s.counts now.counts knows.done kind knows.adds room) q c
     (subst (λ zs. words.IsFirstCause zs q c) same first) (omega (arith, ap length e)))
 
 -- a word that has been read
@@ -55,10 +60,13 @@ read_count xs r is_read = ap length is_read.lexemes ∙ length-take-le r.count x
 pub read_some : (xs : List Lexeme) (r : WordRead) → IsRead xs r → 1 ≤ r.count
 read_some xs r is_read = omega (arith, read_count xs r is_read, word_length is_read.word)
 
-module _ (s : Start) (kind : Option Counted) (left : Option Word) (f : Word → Rest) (now : Reader) (found : WordRead) (knows : Knows s (word_then kind left f) now)
+module _ (s : Start) (kind : Option Counted) (left : Option Word) (f : Word → Rest) (r : Rest) (now : Reader) (found : WordRead) (is_word : IsWordThen (drop now.place now.lexemes.now) kind left f r) (knows : Knows s r now)
     (is_read : IsRead (drop now.place now.lexemes.now) found) (faultless : words.IsFaultless (drop now.place now.lexemes.now)) (room : ¬ IsOneTooMany now.counts [] kind) where
   same_ahead : drop now.place now.lexemes.now ≡ knows.ahead
-  same_ahead = ahead_is s (word_then kind left f) now knows
+  same_ahead = ahead_is s r now knows
+
+  word_here : IsWordThen knows.ahead kind left f r
+  word_here = ahead_word s kind left f r now is_word knows
 
   here : IsRead knows.ahead found
   here = subst (λ zs. IsRead zs found) same_ahead is_read
@@ -74,12 +82,12 @@ module _ (s : Start) (kind : Option Counted) (left : Option Word) (f : Word → 
 
   pub relation_long : found.letters ≤ WORD_LIMIT → WORD_LIMIT < left_letters left + found.letters → IsFirstCause s.counts s.lexemes (now.place + found.count - 1) cause.WordTooLong
   relation_long short long =
-      word_long s kind left f knows.done knows.ahead knows.stand here.word (drop found.count knows.ahead) (word_taken knows.ahead found here faultless_here) room_here
+      word_long s kind left f r knows.done knows.ahead word_here knows.stand here.word (drop found.count knows.ahead) (word_taken knows.ahead found here faultless_here) room_here
       (now.place + found.count - 1) last_place (omega (arith, short, here.letters)) (omega (arith, long, here.letters))
 
   pub letters_many : left_letters left + found.letters ≤ WORD_LIMIT → LETTER_LIMIT < now.counts.letters + found.letters → IsFirstCause s.counts s.lexemes (now.place + found.count - 1) cause.TooMany
   letters_many short many =
-      word_many s kind left f knows.done knows.ahead knows.stand here.word (drop found.count knows.ahead) (word_taken knows.ahead found here faultless_here) room_here
+      word_many s kind left f r knows.done knows.ahead word_here knows.stand here.word (drop found.count knows.ahead) (word_taken knows.ahead found here faultless_here) room_here
       (now.place + found.count - 1) last_place (omega (arith, short, here.letters)) (omega (arith, many, here.letters, knows.adds.letters))
 
   pub word_read : (middle new : Counts) → left_letters left + found.letters ≤ WORD_LIMIT → now.counts.letters + found.letters ≤ LETTER_LIMIT →
@@ -94,7 +102,7 @@ module _ (s : Start) (kind : Option Counted) (left : Option Word) (f : Word → 
         record {
           done = knows.done ++ term kind left w ∷ [];
           ahead = rest;
-          stand = word_passed s kind left f knows.done knows.ahead knows.stand w rest (word_taken knows.ahead found here faultless_here) room_here
+          stand = word_passed s kind left f r knows.done knows.ahead word_here knows.stand w rest (word_taken knows.ahead found here faultless_here) room_here
               (omega (arith, short, here.letters)) (omega (arith, few, here.letters, knows.adds.letters));
           lexemes = knows.lexemes;
           place = omega (arith, knows.place, count, ap length (pieces_push knows.done (term kind left w)), length-append (pieces_lexemes knows.done) (word_lexemes w));

@@ -1,19 +1,19 @@
 -- Lexemes are written of one list of pieces.
-use Rattle.std.proofs.Common.{◌≡◌, ◌≢◌, ◌⊎◌, inl, inr, ⊎_elim, ℕ, ◌<◌, List, [], ◌∷◌, refl, sym, ap, subst, ◌∙◌, arith}
+use Rattle.std.proofs.Common.{◌≡◌, ◌≢◌, ◌⊎◌, inl, inr, ⊎_elim, ℕ, None, ◌<◌, List, [], ◌∷◌, ◌++◌, take, refl, sym, ap, subst, ◌∙◌, arith}
 use Rattle.mg_lex.specs.declared.keyword.Keyword.{Keyword}
 use Rattle.mg_lex.specs.declared.keyword.Keyword.TheVariants as keyword
 use Rattle.mg_lex.specs.declared.mark.Mark.{Mark}
 use Rattle.mg_lex.specs.declared.mark.Mark.TheVariants as mark
 use Rattle.mg_terms.specs.declared.lexeme.Lexeme.{Lexeme}
 use Rattle.mg_terms.specs.declared.lexeme.Lexeme.TheVariants as lexeme
-use Rattle.mg_terms.specs.Word.{name, one, round, commutator, bare, power, Word, single, times}
+use Rattle.mg_terms.specs.Word.{Word, word_lexemes}
 use Rattle.mg_terms.specs.Beginning.{BeginsBase, GoesOn, EndsBefore}
 use Rattle.mg_terms.proofs.Beginnings.{follows, one_end}
 use Rattle.mg_script.specs.declared.form.Property.{Property}
 use Rattle.mg_script.specs.declared.form.Property.TheVariants as property
 use Rattle.mg_script.specs.Statement.{property_keyword, Statement, Piece, sign, term, pieces_lexemes, statement_pieces, statement_lexemes}
-use Rattle.mg_script.specs.Grammar.{Begins, CanEnd, EndsList, Tells, Item, listed_name, listed_word, listed_relation, listed_arrow, Rest, end, either, more, mark_then, keyword_then, item_then, comma_then, Reads, reads_end, reads_sign, reads_word, reads_first, reads_second, reads_more, reads_last, close_group, relations_rest, bar_rest, group_rest, word_rest, subgroup_rest, map_rest, in_rest, words_rest, asked_rest, ask_rest, fund_rest, grant_rest, run_rest, cancel_rest, report_rest, from_report, from_cancel, from_run, from_grant, from_fund, from_ask, from_map, from_subgroup, from_word, statement_rest}
-use Rattle.mg_script.proofs.Rests.{reads_begins, reads_nothing, end_inv, sign_inv, word_inv, either_inv, more_cases}
+use Rattle.mg_script.specs.Grammar.{Begins, CanEnd, EndsList, Tells, Item, listed_name, listed_word, listed_relation, listed_arrow, IsIn, a_property, Rest, end, sign_then, either, more, mark_then, keyword_then, item_then, comma_then, Reads, reads_end, reads_sign, reads_word, reads_first, reads_second, reads_one, reads_other, reads_more, reads_last, AreApart, property_rest, first_word_rest, close_group, relations_rest, bar_rest, group_rest, word_rest, subgroup_rest, map_rest, in_rest, words_rest, asked_rest, ask_rest, fund_rest, grant_rest, run_rest, cancel_rest, report_rest, from_report, from_cancel, from_run, from_grant, from_fund, from_ask, from_map, from_subgroup, from_word, statement_rest}
+use Rattle.mg_script.proofs.Rests.{name_alone, word_first, reads_begins, reads_nothing, end_inv, sign_inv, this_inv, word_inv, either_inv, by_two_inv, more_cases}
 use Rattle.mg_script.proofs.Written.{written}
 
 -- lexemes that stand behind words, and with which no word goes on
@@ -101,6 +101,10 @@ one_reading _ _ qs tells (reads_first a b ps reads) second e =
     ⊎_elim (λ first. one_reading a ps qs tells.0 reads first e) (λ other. absurd (split_reads a b ps qs (tells.2, tells.3) reads other e)) (either_inv a b qs second)
 one_reading _ _ qs tells (reads_second a b ps reads) second e =
     ⊎_elim (λ first. absurd (split_reads a b qs ps (tells.2, tells.3) first reads (sym e))) (λ other. one_reading b ps qs tells.1 reads other e) (either_inv a b qs second)
+one_reading _ _ qs tells (reads_one a b ps reads) second e =
+    ⊎_elim (λ one. one_reading a ps qs tells.0 reads one e) (λ other. absurd (tells.2 ps qs reads other (ap (take 2) e))) (by_two_inv a b qs second)
+one_reading _ _ qs tells (reads_other a b ps reads) second e =
+    ⊎_elim (λ one. absurd (tells.2 qs ps one reads (ap (take 2) (sym e)))) (λ other. one_reading b ps qs tells.1 reads other e) (by_two_inv a b qs second)
 one_reading _ _ qs tells (reads_more i r ps reads) second e =
     ⊎_elim (λ comma. one_reading (comma_then i r) ps qs (comma_tells i r tells) reads comma e)
     (λ last. absurd (split_reads (comma_then i r) r ps qs (more_split i r tells) reads last e)) (more_cases i r qs second)
@@ -176,17 +180,35 @@ property_apart property.Normal x e begins = ⊎_elim (λ f. absurd cc) (λ other
 property_apart property.Extends x e begins = ⊎_elim (λ f. absurd cc) (λ other. ⊎_elim (λ f. absurd cc) (λ f. absurd cc) other) begins
 property_apart property.Onto x e begins = ⊎_elim (λ f. absurd cc) (λ other. ⊎_elim (λ f. absurd cc) (λ f. absurd cc) other) begins
 
-asked_tells : (w : Word) → Tells (asked_rest w) × ((x : Lexeme) → Begins (asked_rest w) x → ¬ GoesOn w x)
-asked_tells (single (bare name)) = (
-  (tt, words_tells, (λ x p begins. property_apart p.0 x p.1 begins), λ none. absurd none),
-  λ x begins. ⊎_elim (λ p. subst (λ y. ¬ GoesOn (single (bare name)) y) (sym p.1) (keyword_apart (property_keyword p.0) (single (bare name))))
-      (λ other. words_begin x other (single (bare name))) begins,
-)
-asked_tells (single (bare one)) = (words_tells, λ x begins. words_begin x begins (single (bare one)))
-asked_tells (single (bare (round w))) = (words_tells, λ x begins. words_begin x begins (single (bare (round w))))
-asked_tells (single (bare (commutator u v))) = (words_tells, λ x begins. words_begin x begins (single (bare (commutator u v))))
-asked_tells (single (power b negative n)) = (words_tells, λ x begins. words_begin x begins (single (power b negative n)))
-asked_tells (times w star f) = (words_tells, λ x begins. words_begin x begins (times w star f))
+-- a word and what is asked of it don't begin with a name and a property
+two_apart : (xs : List Lexeme) (w : Word) (others : List Piece) (x : Lexeme) → word_lexemes w ≡ xs → IsIn a_property x → Reads words_rest others →
+    take 2 (xs ++ pieces_lexemes others) ≡ lexeme.Name ∷ x ∷ [] → ⊥
+two_apart [] w others x f property reads e = let h = word_first w in let none : h.0 ∷ h.1 ≡ [] = sym h.2 ∙ f in absurd cc
+two_apart (y ∷ []) w others x f property reads e = next_apart (pieces_lexemes others) refl
+  where
+    next_apart : (zs : List Lexeme) → pieces_lexemes others ≡ zs → ⊥
+    next_apart [] g = let short : y ∷ [] ≡ lexeme.Name ∷ x ∷ [] = ap (λ us. take 2 (y ∷ us)) (sym g) ∙ e in absurd cc
+    next_apart (z ∷ zs) g =
+        let two : y ∷ z ∷ [] ≡ lexeme.Name ∷ x ∷ [] = ap (λ us. take 2 (y ∷ us)) (sym g) ∙ e in
+        let same : z ≡ x = cc in
+        property_apart property.0 z (same ∙ property.1) (reads_begins words_rest others reads z zs g)
+two_apart (y ∷ (z ∷ ys)) w others x f property reads e =
+    let two : y ∷ z ∷ [] ≡ lexeme.Name ∷ x ∷ [] = e in
+    let first : y ≡ lexeme.Name = cc in
+    let second : z ≡ x = cc in
+    keyword_apart (property_keyword property.0) name_alone (w, ys, f ∙ ap (λ u. u ∷ (z ∷ ys)) first ∙ ap (λ u. lexeme.Name ∷ (u ∷ ys)) (second ∙ property.1))
+
+asked_apart : AreApart property_rest first_word_rest
+asked_apart ps qs property words e =
+    let h = this_inv None lexeme.Name (sign_then None a_property end) ps property in
+    let k = sign_inv None a_property end h.0 h.2 in
+    let w = word_inv None None (λ v. words_rest) qs words in
+    let both : ps ≡ sign None lexeme.Name ∷ sign None k.lexeme ∷ k.others = h.1 ∙ ap (λ us. sign None lexeme.Name ∷ us) k.split in
+    two_apart (word_lexemes w.word) w.word w.others k.lexeme refl k.in_class w.reads
+    (ap (λ us. take 2 (pieces_lexemes us)) (sym w.split) ∙ sym e ∙ ap (λ us. take 2 (pieces_lexemes us)) both)
+
+asked_tells : Tells asked_rest
+asked_tells = (tt, (λ w. (words_tells, λ x begins. words_begin x begins w)), asked_apart)
 
 pub run_tells : Tells run_rest
 run_tells = (tt, tt, (λ x e none. none), λ none. absurd none)

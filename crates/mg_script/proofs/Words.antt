@@ -3,7 +3,7 @@ use Rattle.std.proofs.Common.{◌≡◌, ◌⊎◌, inl, inr, ⊎_elim, ℕ, zer
 use Rattle.std.specs.List.{AllByRecursion}
 use Rattle.std.proofs.Math.Seq.{take-append_seam, take-append-add, take-add, drop-append-add, drop-append_seam}
 use Rattle.std.proofs.lemmas.Bool.{cases_lt}
-use Rattle.std.proofs.lemmas.List.{take-take, take-append-drop, length-take-le, take_all, take_at, append_cancel_left, length-drop}
+use Rattle.std.proofs.lemmas.List.{take-take, take-append-drop, length-take, length-take-le, take_all, take_at, append_cancel_left, length-drop}
 use Rattle.std.proofs.lemmas.List.Elements.{All-from_recursion, All-contains}
 use Rattle.mg_lex.specs.declared.refusal.Cause.{Cause}
 use Rattle.mg_lex.specs.declared.refusal.Cause.TheVariants as cause
@@ -23,14 +23,14 @@ use Rattle.mg_terms.proofs.Beginnings.{overlap, one_end}
 use Rattle.mg_script.specs.declared.counted.Counted.{Counted}
 use Rattle.mg_script.specs.declared.counted.Counts.{Counts}
 use Rattle.mg_script.specs.declared.counted.TheConstants.{LETTER_LIMIT}
-use Rattle.mg_script.specs.Statement.{Piece, term, pieces_lexemes, name_alone, Statement, statement_pieces, statement_lexemes}
+use Rattle.mg_script.specs.Statement.{Piece, sign, term, pieces_lexemes, has, Statement, ask, statement_pieces, statement_lexemes}
 use Rattle.mg_script.specs.Count.{letters_in, left_letters}
-use Rattle.mg_script.specs.Cause.{IsStatement, IsReach, IsWhole, IsOneTooMany, Shows, one_word_too_many, in_word, long_relation, too_many_letters, IsShown, Stands, IsFirstCause}
-use Rattle.mg_script.specs.Grammar.{Rest, word_then, Reads, reads_word}
-use Rattle.mg_script.specs.Reader.{Start, IsWriting, BeginAlike, Stand}
-use Rattle.mg_script.proofs.Rests.{sample, word_inv}
+use Rattle.mg_script.specs.Cause.{IsStatement, IsReach, IsWhole, IsNameAsked, IsOneTooMany, Shows, one_word_too_many, in_word, long_relation, too_many_letters, IsShown, Stands, IsFirstCause}
+use Rattle.mg_script.specs.Grammar.{IsIn, a_property, Rest, end, sign_then, words_rest, property_rest, first_word_rest, Reads, reads_word, reads_other, Begins, Tells}
+use Rattle.mg_script.specs.Reader.{Start, IsWriting, BeginAlike, Stand, IsPropertyNext, IsWordThen, any_word, no_property}
+use Rattle.mg_script.proofs.Rests.{name_alone, sample, end_inv, sign_inv, this_inv, WordRead as WordFirst, word_inv, by_two_inv}
 use Rattle.mg_script.proofs.Unique.{ends_word}
-use Rattle.mg_script.proofs.Standing.{pieces_append, word_length, shows_from}
+use Rattle.mg_script.proofs.Standing.{pieces_append, split_at, word_length, shows_from, sign_quiet}
 use Rattle.mg_script.proofs.Reaches.{reach_past, one_reach}
 
 -- a piece is one of those that are read, the next one or a later one
@@ -57,13 +57,13 @@ pub data TermShows (counts : Counts) (xs : List Lexeme) (front : List Piece) (ki
   over : c ≡ cause.TooMany → p ≡ length (pieces_lexemes front) → IsOneTooMany counts front kind → TermShows counts xs front kind left w p c
   inside : (q : ℕ) → p ≡ length (pieces_lexemes front) + q → words.IsShown (drop (length (pieces_lexemes front)) xs) q c → TermShows counts xs front kind left w p c
   long : (u : Word) → left ≡ Some u → c ≡ cause.WordTooLong → IsWhole xs (length (pieces_lexemes front)) w p → WORD_LIMIT < word_letters u + word_letters w → TermShows counts xs front kind left w p c
-  many : c ≡ cause.TooMany → IsWhole xs (length (pieces_lexemes front)) w p → LETTER_LIMIT < counts.letters + (letters_in front + word_letters w) → TermShows counts xs front kind left w p c
+  many : c ≡ cause.TooMany → IsWhole xs (length (pieces_lexemes front)) w p → LETTER_LIMIT < counts.letters + (letters_in front + word_letters w) → (IsNameAsked xs p → ⊥) → TermShows counts xs front kind left w p c
 
-term_shows : (counts : Counts) (xs : List Lexeme) (front : List Piece) (kind : Option Counted) (left : Option Word) (w : Word) (p : ℕ) (c : Cause) → Shows counts xs front (term kind left w) p c → TermShows counts xs front kind left w p c
+pub term_shows : (counts : Counts) (xs : List Lexeme) (front : List Piece) (kind : Option Counted) (left : Option Word) (w : Word) (p : ℕ) (c : Cause) → Shows counts xs front (term kind left w) p c → TermShows counts xs front kind left w p c
 term_shows _ _ _ _ _ _ _ _ (one_word_too_many kind left w p at full) = over refl at full
 term_shows _ _ _ _ _ _ _ _ (in_word kind left w p q c at shown) = inside q at shown
 term_shows _ _ _ _ _ _ _ _ (long_relation kind u v p whole too_long) = long u refl refl whole too_long
-term_shows _ _ _ _ _ _ _ _ (too_many_letters kind left w p whole too_many) = many refl whole too_many
+term_shows _ _ _ _ _ _ _ _ (too_many_letters kind left w p whole too_many apart) = many refl whole too_many apart
 
 -- a word that is read at the front of some lexemes
 pub record IsTaken (ahead : List Lexeme) (w : Word) (after : List Lexeme) : Type 0 where
@@ -78,6 +78,101 @@ record IsShared (kind : Option Counted) (left : Option Word) (done : List Piece)
   written : qs ≡ done ++ term kind left word ∷ others
   lexemes : word_lexemes word ++ pieces_lexemes others ≡ take k ahead ++ rest
   ended : EndsBefore word (pieces_lexemes others)
+
+-- a name and a property are no word
+pub record NameRead (ahead : List Lexeme) (ps : List Piece) : Type 0 where
+  pub behind : Lexeme
+  pub split : ps ≡ sign None lexeme.Name ∷ sign None behind ∷ []
+  pub in_class : IsIn a_property behind
+  pub apart : IsPropertyNext ahead → ⊥
+
+word_or_name : (ahead : List Lexeme) (kind : Option Counted) (left : Option Word) (f : Word → Rest) (r : Rest) → IsWordThen ahead kind left f r → (ps : List Piece) → Reads r ps →
+    WordFirst kind left f ps ⊎ NameRead ahead ps
+word_or_name ahead _ _ _ _ (any_word kind left f) ps reads = inl (word_inv kind left f ps reads)
+word_or_name ahead _ _ _ _ (no_property apart) ps reads =
+    ⊎_elim (λ property.
+    let h = this_inv None lexeme.Name (sign_then None a_property end) ps property in
+    let k = sign_inv None a_property end h.0 h.2 in
+    inr (record {
+      behind = k.lexeme;
+      split = h.1 ∙ ap (λ us. sign None lexeme.Name ∷ us) (k.split ∙ ap (λ us. sign None k.lexeme ∷ us) (end_inv k.others k.reads));
+      in_class = k.in_class;
+      apart = apart;
+    }))
+    (λ words. inl (word_inv None None (λ v. words_rest) ps words))
+    (by_two_inv property_rest first_word_rest ps reads)
+
+writes_word : (ahead : List Lexeme) (kind : Option Counted) (left : Option Word) (f : Word → Rest) (r : Rest) → IsWordThen ahead kind left f r → (w : Word) (ps : List Piece) → Reads (f w) ps →
+    Reads r (term kind left w ∷ ps)
+writes_word ahead _ _ _ _ (any_word kind left f) w ps reads = reads_word kind left f w ps reads
+writes_word ahead _ _ _ _ (no_property apart) w ps reads = reads_other property_rest first_word_rest _ (reads_word None None (λ v. words_rest) w ps reads)
+
+word_tells : (ahead : List Lexeme) (kind : Option Counted) (left : Option Word) (f : Word → Rest) (r : Rest) → IsWordThen ahead kind left f r → Tells r → (w : Word) →
+    Tells (f w) × ((x : Lexeme) → Begins (f w) x → ¬ GoesOn w x)
+word_tells ahead _ _ _ _ (any_word kind left f) tells w = tells w
+word_tells ahead _ _ _ _ (no_property apart) tells w = tells.1 w
+
+-- a statement that has such a name at the front of what is ahead
+record IsOther (done : List Piece) (ahead : List Lexeme) (qs : List Piece) (k : ℕ) (rest : List Lexeme) : Type 0 where
+  behind : Lexeme
+  written : qs ≡ done ++ sign None lexeme.Name ∷ sign None behind ∷ []
+  lexemes : lexeme.Name ∷ behind ∷ [] ≡ take k ahead ++ rest
+  in_class : IsIn a_property behind
+  apart : IsPropertyNext ahead → ⊥
+
+-- neither of the two shows a cause
+pub signs_quiet : (counts : Counts) (xs : List Lexeme) (front cs back : List Piece) (x y : Lexeme) (piece : Piece) (p : ℕ) (c : Cause) →
+    sign None x ∷ sign None y ∷ [] ≡ cs ++ piece ∷ back → Shows counts xs front piece p c → ⊥
+signs_quiet counts xs front [] back x y piece p c e shows =
+    let same : piece ≡ sign None x = cc in sign_quiet counts xs front x p c (subst (λ o. Shows counts xs front o p c) same shows)
+signs_quiet counts xs front (d ∷ []) back x y piece p c e shows =
+    let same : piece ≡ sign None y = cc in sign_quiet counts xs front y p c (subst (λ o. Shows counts xs front o p c) same shows)
+signs_quiet counts xs front (d ∷ (f ∷ [])) back x y piece p c e shows = absurd cc
+signs_quiet counts xs front (d ∷ (f ∷ (g ∷ cs))) back x y piece p c e shows = absurd cc
+
+-- where no word is read, no name is
+name_not_read : (ahead : List Lexeme) (q : ℕ) (behind : Lexeme) (rest : List Lexeme) → words.IsReach ahead q → 1 ≤ length ahead → lexeme.Name ∷ behind ∷ [] ≡ take (q + 1) ahead ++ rest →
+    IsIn a_property behind → (IsPropertyNext ahead → ⊥) → (q ≡ length ahead → rest ≡ []) → ⊥
+name_not_read [] q behind rest reach any e property apart last = absurd (omega (arith, any))
+name_not_read (x ∷ xs) zero behind rest reach any e property apart last =
+    let first : x ≡ lexeme.Name = cc in
+    reach.no_more any (name_alone, [], ap (λ y. y ∷ []) (sym first))
+name_not_read (x ∷ []) (suc n) behind rest reach any e property apart last =
+    let within = reach.within in
+    let at_end : suc n ≡ 1 = omega (arith, within) in
+    let none = last at_end in
+    omega (arith, ap length e, length-append (take (suc n + 1) (x ∷ [])) rest, length-take (suc n + 1) (x ∷ []), ap length none)
+name_not_read (x ∷ (y ∷ xs)) (suc n) behind rest reach any e property apart last =
+    let two : suc n + 1 ≡ suc (suc n) = omega arith in
+    let both : lexeme.Name ∷ behind ∷ [] ≡ x ∷ (y ∷ (take n xs ++ rest)) = e ∙ ap (λ j. take j (x ∷ (y ∷ xs)) ++ rest) two in
+    let first : x ≡ lexeme.Name = cc in
+    let second : y ≡ behind = cc in
+    apart (behind, xs, ap (λ u. u ∷ (y ∷ xs)) first ∙ ap (λ u. lexeme.Name ∷ (u ∷ xs)) second, property)
+
+-- what begins like a name and a property has both next
+name_next : (us zs after : List Lexeme) (behind : Lexeme) → us ++ zs ≡ lexeme.Name ∷ behind ∷ [] → 1 ≤ length us → BeginAlike after zs → (xs : List Lexeme) × (us ++ after ≡ lexeme.Name ∷ behind ∷ xs)
+name_next [] zs after behind e some next = absurd (omega (arith, some))
+name_next (x ∷ []) [] after behind e some next = absurd cc
+name_next (x ∷ []) (z ∷ zs) [] behind e some next = absurd next
+name_next (x ∷ []) (z ∷ zs) (a ∷ us) behind e some next =
+    let first : x ≡ lexeme.Name = cc in
+    let second : z ≡ behind = cc in
+    (us, ap (λ u. u ∷ (a ∷ us)) first ∙ ap (λ u. lexeme.Name ∷ (u ∷ us)) (next ∙ second))
+name_next (x ∷ (y ∷ us)) zs after behind e some next =
+    let first : x ≡ lexeme.Name = cc in
+    let second : y ≡ behind = cc in
+    (us ++ after, ap (λ u. u ∷ (y ∷ (us ++ after))) first ∙ ap (λ u. lexeme.Name ∷ (u ∷ (us ++ after))) second)
+
+-- pieces without a word
+abbrev AreSigns : List Piece → Type 0
+AreSigns [] = Unit {0}
+AreSigns (sign kind x ∷ ps) = AreSigns ps
+AreSigns (term kind left w ∷ ps) = ⊥
+
+no_term : (front back : List Piece) (kind : Option Counted) (left : Option Word) (w : Word) → AreSigns (front ++ term kind left w ∷ back) → ⊥
+no_term [] back kind left w signs = signs
+no_term (sign k x ∷ front) back kind left w signs = no_term front back kind left w signs
+no_term (term k l v ∷ front) back kind left w signs = signs
 
 -- a statement that has a word next
 record IsBegun (s : Start) (kind : Option Counted) (left : Option Word) (done : List Piece) (w : Word) (p : ℕ) : Type 0 where
@@ -313,21 +408,35 @@ record IsOfWord (s : Start) (kind : Option Counted) (left : Option Word) (done :
   last : p + 1 ≡ length (pieces_lexemes done) + length (word_lexemes w)
   shows : TermShows s.counts s.lexemes done kind left w p c
 
-module _ (s : Start) (kind : Option Counted) (left : Option Word) (f : Word → Rest) (done : List Piece) (ahead : List Lexeme) (stand : Stand s (word_then kind left f) done ahead) where
+module _ (s : Start) (kind : Option Counted) (left : Option Word) (f : Word → Rest) (r : Rest) (done : List Piece) (ahead : List Lexeme) (is_word : IsWordThen ahead kind left f r) (stand : Stand s r done ahead) where
   shared_at : (t : Statement) (k : ℕ) (rest : List Lexeme) → 1 ≤ k → 1 ≤ length ahead → statement_lexemes t ≡ pieces_lexemes done ++ (take k ahead ++ rest) →
-      IsShared kind left done ahead (statement_pieces t) k rest
+      IsShared kind left done ahead (statement_pieces t) k rest ⊎ IsOther done ahead (statement_pieces t) k rest
   shared_at t k rest some any e =
       let h = stand.only (statement_pieces t) (take k ahead ++ rest) (t, refl) e (alike k ahead rest some any) in
-      let w = word_inv kind left f h.0 h.2 in
       let behind : pieces_lexemes h.0 ≡ take k ahead ++ rest =
       append_cancel_left (pieces_lexemes done) (pieces_lexemes h.0) (take k ahead ++ rest) (sym (pieces_append done h.0) ∙ ap pieces_lexemes (sym h.1) ∙ e) in
-      record {
+      ⊎_elim (λ w. inl (record {
         word = w.word;
         others = w.others;
         written = h.1 ∙ ap (λ ps. done ++ ps) w.split;
         lexemes = ap pieces_lexemes (sym w.split) ∙ behind;
-        ended = ends_word w.word (f w.word) w.others w.reads (stand.tells w.word).1;
-      }
+        ended = ends_word w.word (f w.word) w.others w.reads (word_tells ahead kind left f r is_word stand.tells w.word).1;
+      }))
+      (λ n. inr (record {
+        behind = n.behind;
+        written = h.1 ∙ ap (λ ps. done ++ ps) n.split;
+        lexemes = ap pieces_lexemes (sym n.split) ∙ behind;
+        in_class = n.in_class;
+        apart = n.apart;
+      }))
+      (word_or_name ahead kind left f r is_word h.0 h.2)
+
+  -- where a name stands next, nothing is shown
+  name_quiet : (p k : ℕ) (c : Cause) (rest : List Lexeme) (shown : IsShown s.counts s.lexemes p c) → IsOther done ahead (statement_pieces shown.statement) k rest → ⊥
+  name_quiet p k c rest shown other =
+      ⊎_elim (λ old. stand.quiet shown.front old.0 shown.piece p c old.1 shown.shows)
+      (λ new. signs_quiet s.counts s.lexemes shown.front new.0 shown.back lexeme.Name other.behind shown.piece p c new.2 shown.shows)
+      (split_at shown.front shown.back done (sign None lexeme.Name ∷ sign None other.behind ∷ []) shown.piece (sym shown.written ∙ other.written))
 
   -- all lexemes, and those that are read
   front_of : (p k : ℕ) → p ≡ length (pieces_lexemes done) + k → take p s.lexemes ≡ pieces_lexemes done ++ take k ahead
@@ -344,7 +453,7 @@ module _ (s : Start) (kind : Option Counted) (left : Option Word) (f : Word → 
 
   -- a statement that begins with so many lexemes
   shared_of : (t : Statement) (p k : ℕ) (rest : List Lexeme) → p ≡ length (pieces_lexemes done) + k → 1 ≤ k → 1 ≤ length ahead → statement_lexemes t ≡ take p s.lexemes ++ rest →
-      IsShared kind left done ahead (statement_pieces t) k rest
+      IsShared kind left done ahead (statement_pieces t) k rest ⊎ IsOther done ahead (statement_pieces t) k rest
   shared_of t p k rest e some any f =
       shared_at t k rest some any (f ∙ ap (λ xs. xs ++ rest) (front_of p k e) ∙ append_assoc (pieces_lexemes done) (take k ahead) rest)
 
@@ -352,7 +461,7 @@ module _ (s : Start) (kind : Option Counted) (left : Option Word) (f : Word → 
   begun_of : (w : Word) (p k : ℕ) (rest : List Lexeme) → p ≡ length (pieces_lexemes done) + k → word_lexemes w ≡ take k ahead ++ rest → IsBegun s kind left done w p
   begun_of w p k rest e begins =
       let ps = sample (f w) in
-      let t = stand.goes_on (term kind left w ∷ ps.0) (reads_word kind left f w ps.0 ps.1) in
+      let t = stand.goes_on (term kind left w ∷ ps.0) (writes_word ahead kind left f r is_word w ps.0 ps.1) in
       let behind : word_lexemes w ++ pieces_lexemes ps.0 ≡ take k ahead ++ (rest ++ pieces_lexemes ps.0) =
       ap (λ xs. xs ++ pieces_lexemes ps.0) begins ∙ append_assoc (take k ahead) rest (pieces_lexemes ps.0) in
       record {
@@ -395,11 +504,11 @@ module _ (s : Start) (kind : Option Counted) (left : Option Word) (f : Word → 
           let same = same_whole share.word h.0 p k whole e (omega (arith, short, ahead_within)) h.1 in
           let mine = subst (λ v. IsWhole s.lexemes (length (pieces_lexemes done)) v p) same whole in
           record { last = mine.last; shows = long u side f mine (subst (λ v. WORD_LIMIT < word_letters u + word_letters v) same too_long) }
-      by_term qs k rest share short p c e (many f whole too_many) =
+      by_term qs k rest share short p c e (many f whole too_many apart) =
           let h = word_of qs k rest share short in
           let same = same_whole share.word h.0 p k whole e (omega (arith, short, ahead_within)) h.1 in
           let mine = subst (λ v. IsWhole s.lexemes (length (pieces_lexemes done)) v p) same whole in
-          record { last = mine.last; shows = many f mine (subst (λ v. LETTER_LIMIT < s.counts.letters + (letters_in done + word_letters v)) same too_many) }
+          record { last = mine.last; shows = many f mine (subst (λ v. LETTER_LIMIT < s.counts.letters + (letters_in done + word_letters v)) same too_many) apart }
 
       -- a piece behind the word shows nothing before its end
       too_late : (qs : List Piece) (k : ℕ) (rest : List Lexeme) (share : IsShared kind left done ahead qs k rest) → k ≤ length (word_lexemes w) →
@@ -412,13 +521,9 @@ module _ (s : Start) (kind : Option Counted) (left : Option Word) (f : Word → 
           let inner = length-append (word_lexemes share.word) (pieces_lexemes mid) in
           omega (arith, e, late, count, size, parts, inner, ap length h.1, length-append (take k ahead) h.0)
 
-      of_word : (p : ℕ) (c : Cause) → IsShown s.counts s.lexemes p c → p < length (pieces_lexemes done) + length (word_lexemes w) → IsOfWord s kind left done w p c
-      of_word p c shown short =
-          let early = stand.early p c shown in
-          let k : ℕ = (p + 1) - length (pieces_lexemes done) in
-          let e : p + 1 ≡ length (pieces_lexemes done) + k = omega (arith, early) in
-          let small : k ≤ length (word_lexemes w) = omega (arith, early, short) in
-          let share = shared_of shown.statement (p + 1) k shown.rest e (omega (arith, early)) (omega (arith, ahead_within, word_length w)) shown.shared in
+      of_shared : (p : ℕ) (c : Cause) (shown : IsShown s.counts s.lexemes p c) (k : ℕ) → k ≤ length (word_lexemes w) → p + 1 ≡ length (pieces_lexemes done) + k →
+          (share : IsShared kind left done ahead (statement_pieces shown.statement) k shown.rest) → IsOfWord s kind left done w p c
+      of_shared p c shown k small e share =
           ⊎_elim (λ h. absurd (stand.quiet shown.front h.0 shown.piece p c h.1 shown.shows))
           (λ other. ⊎_elim (λ next. by_term (statement_pieces shown.statement) k shown.rest share small p c e
           (term_shows s.counts s.lexemes done kind left share.word p c (subst (λ q. Shows s.counts s.lexemes done q p c) next.1 (subst (λ ps. Shows s.counts s.lexemes ps shown.piece p c) next.0 shown.shows))))
@@ -426,12 +531,21 @@ module _ (s : Start) (kind : Option Counted) (left : Option Word) (f : Word → 
           (shows_from s.counts s.lexemes shown.front shown.piece p c shown.shows))) other)
           (placed_in (statement_pieces shown.statement) done (term kind left share.word) share.others shown.front shown.piece shown.back share.written shown.written)
 
+      of_word : (p : ℕ) (c : Cause) → IsShown s.counts s.lexemes p c → p < length (pieces_lexemes done) + length (word_lexemes w) → IsOfWord s kind left done w p c
+      of_word p c shown short =
+          let early = stand.early p c shown in
+          let k : ℕ = (p + 1) - length (pieces_lexemes done) in
+          let e : p + 1 ≡ length (pieces_lexemes done) + k = omega (arith, early) in
+          let small : k ≤ length (word_lexemes w) = omega (arith, early, short) in
+          ⊎_elim (λ share. of_shared p c shown k small e share) (λ other. absurd (name_quiet p k c shown.rest shown other))
+          (shared_of shown.statement (p + 1) k shown.rest e (omega (arith, early)) (omega (arith, ahead_within, word_length w)) shown.shared)
+
       term_quiet : left_letters left + word_letters w ≤ WORD_LIMIT → s.counts.letters + (letters_in done + word_letters w) ≤ LETTER_LIMIT →
           (p : ℕ) (c : Cause) → TermShows s.counts s.lexemes done kind left w p c → ⊥
       term_quiet relation letters p c (over f at full) = room full
       term_quiet relation letters p c (inside q at shown) = taken.faultless q c (inr (subst (λ xs. words.IsShown xs q c) ahead_of shown))
       term_quiet relation letters p c (long u side f whole too_long) = absurd (omega (arith, relation, too_long, ap left_letters side))
-      term_quiet relation letters p c (many f whole too_many) = absurd (omega (arith, letters, too_many))
+      term_quiet relation letters p c (many f whole too_many apart) = absurd (omega (arith, letters, too_many))
 
       one_more : pieces_lexemes (done ++ term kind left w ∷ []) ≡ pieces_lexemes done ++ word_lexemes w
       one_more = pieces_append done (term kind left w ∷ []) ∙ ap (λ xs. pieces_lexemes done ++ xs) (append-nil (word_lexemes w))
@@ -442,15 +556,19 @@ module _ (s : Start) (kind : Option Counted) (left : Option Word) (f : Word → 
           let longer : pieces_lexemes qs ≡ pieces_lexemes done ++ (word_lexemes w ++ zs) = e ∙ ap (λ xs. xs ++ zs) one_more ∙ append_assoc (pieces_lexemes done) (word_lexemes w) zs in
           let begins = subst (λ xs. BeginAlike xs (word_lexemes w ++ zs)) (sym taken.split) (alike_front (word_lexemes w) after zs (word_length w)) in
           let h = stand.only qs (word_lexemes w ++ zs) writing longer begins in
-          let v = word_inv kind left f h.0 h.2 in
           let behind : pieces_lexemes h.0 ≡ word_lexemes w ++ zs =
           append_cancel_left (pieces_lexemes done) (pieces_lexemes h.0) (word_lexemes w ++ zs) (sym (pieces_append done h.0) ∙ ap pieces_lexemes (sym h.1) ∙ longer) in
+          ⊎_elim (λ v.
           let same = one_end v.word w (pieces_lexemes v.others) zs (ap pieces_lexemes (sym v.split) ∙ behind)
-          (ends_word v.word (f v.word) v.others v.reads (stand.tells v.word).1) (ends_alike w after zs next taken.ended) in (
+          (ends_word v.word (f v.word) v.others v.reads (word_tells ahead kind left f r is_word stand.tells v.word).1) (ends_alike w after zs next taken.ended) in (
             v.others,
             h.1 ∙ ap (λ ps. done ++ ps) (v.split ∙ ap (λ u. term kind left u ∷ v.others) same.0) ∙ sym (append_assoc done (term kind left w ∷ []) v.others),
             subst (λ u. Reads (f u) v.others) same.0 v.reads,
-          )
+          ))
+          (λ n.
+          let both = name_next (word_lexemes w) zs after n.behind (sym behind ∙ ap pieces_lexemes n.split) (word_length w) next in
+          absurd (n.apart (n.behind, both.0, taken.split ∙ both.1, n.in_class)))
+          (word_or_name ahead kind left f r is_word h.0 h.2)
 
       passed_quiet : ((p : ℕ) (c : Cause) → TermShows s.counts s.lexemes done kind left w p c → ⊥) → (front back : List Piece) (piece : Piece) (p : ℕ) (c : Cause) →
           done ++ term kind left w ∷ [] ≡ front ++ piece ∷ back → Shows s.counts s.lexemes front piece p c → ⊥
@@ -482,9 +600,9 @@ module _ (s : Start) (kind : Option Counted) (left : Option Word) (f : Word → 
           let none = term_quiet relation letters in
           record {
             split = stand.split ∙ ap (λ xs. pieces_lexemes done ++ xs) taken.split ∙ sym (append_assoc (pieces_lexemes done) (word_lexemes w) after) ∙ ap (λ xs. xs ++ after) (sym one_more);
-            goes_on = λ ps reads. subst IsWriting (sym (append_assoc done (term kind left w ∷ []) ps)) (stand.goes_on (term kind left w ∷ ps) (reads_word kind left f w ps reads));
+            goes_on = λ ps reads. subst IsWriting (sym (append_assoc done (term kind left w ∷ []) ps)) (stand.goes_on (term kind left w ∷ ps) (writes_word ahead kind left f r is_word w ps reads));
             only = passed_only;
-            tells = (stand.tells w).0;
+            tells = (word_tells ahead kind left f r is_word stand.tells w).0;
             quiet = passed_quiet none;
             early = passed_early none;
           }
@@ -530,28 +648,45 @@ module _ (s : Start) (kind : Option Counted) (left : Option Word) (f : Word → 
           long_least q d (over g at full) = absurd (room full)
           long_least q d (inside r at shown) = absurd (taken.faultless r d (inr (subst (λ xs. words.IsShown xs r d) ahead_of shown)))
           long_least q d (long u side g whole longer) = subst (λ c. 6 ≤ cause_number c) (sym g) (omega arith)
-          long_least q d (many g whole too_many) = subst (λ c. 6 ≤ cause_number c) (sym g) (omega arith)
+          long_least q d (many g whole too_many apart) = subst (λ c. 6 ≤ cause_number c) (sym g) (omega arith)
+
+      -- the lexemes are no question about a name
+      no_name_asked : (p : ℕ) → p + 1 ≡ length (pieces_lexemes done) + length (word_lexemes w) → IsNameAsked s.lexemes p → ⊥
+      no_name_asked p e asked =
+          let t = ask (has asked.0) in
+          ⊎_elim (λ share. no_term done share.others kind left share.word (subst AreSigns share.written tt))
+          (λ other.
+          let k = length (word_lexemes w) + 1 in
+          other.apart (
+            other.behind,
+            drop k ahead,
+            sym (take-append-drop k ahead) ∙ ap (λ us. us ++ drop k ahead) (sym (append-nil (take k ahead)) ∙ sym other.lexemes),
+            other.in_class,
+          ))
+          (shared_of t (p + 2) (length (word_lexemes w) + 1) [] (omega (arith, e)) (omega arith) (omega (arith, ahead_within, word_length w)) (asked.1 ∙ sym (append-nil (take (p + 2) s.lexemes))))
 
       -- all words have too many letters together
       pub word_many : (p : ℕ) → p + 1 ≡ length (pieces_lexemes done) + length (word_lexemes w) → left_letters left + word_letters w ≤ WORD_LIMIT →
           LETTER_LIMIT < s.counts.letters + (letters_in done + word_letters w) → IsFirstCause s.counts s.lexemes p cause.TooMany
-      word_many p e relation sum = at_end p cause.TooMany e (too_many_letters kind left w p (word_whole p e) sum) (many_least p)
+      word_many p e relation sum = at_end p cause.TooMany e (too_many_letters kind left w p (word_whole p e) sum (no_name_asked p e)) (many_least p)
         where
           many_least : (q : ℕ) (d : Cause) → TermShows s.counts s.lexemes done kind left w q d → cause_number cause.TooMany ≤ cause_number d
           many_least q d (over g at full) = absurd (room full)
           many_least q d (inside r at shown) = absurd (taken.faultless r d (inr (subst (λ xs. words.IsShown xs r d) ahead_of shown)))
           many_least q d (long u side g whole longer) = absurd (omega (arith, relation, longer, ap left_letters side))
-          many_least q d (many g whole too_many) = subst (λ c. 7 ≤ cause_number c) (sym g) (omega arith)
+          many_least q d (many g whole too_many apart) = subst (λ c. 7 ≤ cause_number c) (sym g) (omega arith)
 
   -- the first cause is in the word
   module _ (room : ¬ IsOneTooMany s.counts done kind) (q : ℕ) (c : Cause) (fault : words.IsFirstCause ahead q c) (any : 1 ≤ length ahead) where
     none_reads : (reach : words.IsReach ahead q) (no_word : ¬ IsWord (take q ahead)) (t : Statement) (rest : List Lexeme) → statement_lexemes t ≡ pieces_lexemes done ++ (take (q + 1) ahead ++ rest) →
         (q ≡ length ahead → rest ≡ []) → ⊥
     none_reads reach no_word t rest e last =
-        let share = shared_at t (q + 1) rest (omega arith) any e in
+        ⊎_elim (λ share.
         ⊎_elim (λ h. not_read ahead q reach no_word share.word (pieces_lexemes share.others) rest h.0 share.lexemes h.1 last)
         (λ h. h.3 (goes_within ahead q c fault.stands share.word h.0 h.1 (q + 1) (omega arith) h.2))
-        (cut share.word (pieces_lexemes share.others) (take (q + 1) ahead) rest share.ended share.lexemes)
+        (cut share.word (pieces_lexemes share.others) (take (q + 1) ahead) rest share.ended share.lexemes))
+        (λ other. name_not_read ahead q other.behind rest reach any other.lexemes other.in_class other.apart last)
+        (shared_at t (q + 1) rest (omega arith) any e)
 
     unexpected_reach : words.IsReach ahead q → (¬ IsWord (take q ahead)) → IsReach s.lexemes (length (pieces_lexemes done) + q)
     unexpected_reach reach no_word =
@@ -620,7 +755,7 @@ module _ (s : Start) (kind : Option Counted) (left : Option Word) (f : Word → 
         ⊎_elim (λ less. inl (omega (arith, less, at))) (λ same. inr (omega (arith, same.0, at), same.1))
         (fault.first r d (inr (subst (λ xs. words.IsShown xs r d) ahead_of shown)))
     refused_term p k d qs rest share (long u side g whole too_long) = absurd (subst words.IsFaultless ahead_of whole.faultless q c fault.stands)
-    refused_term p k d qs rest share (many g whole too_many) = absurd (subst words.IsFaultless ahead_of whole.faultless q c fault.stands)
+    refused_term p k d qs rest share (many g whole too_many apart) = absurd (subst words.IsFaultless ahead_of whole.faultless q c fault.stands)
 
     refused_later : (p k : ℕ) (qs : List Piece) (rest : List Lexeme) (share : IsShared kind left done ahead qs k rest) → k ≤ q + 1 → k ≤ length ahead → p + 1 ≡ length (pieces_lexemes done) + k →
         (front mid : List Piece) → front ≡ done ++ term kind left share.word ∷ mid → length (pieces_lexemes front) ≤ p → ⊥
@@ -639,13 +774,15 @@ module _ (s : Start) (kind : Option Counted) (left : Option Word) (f : Word → 
         let outer = shown.within in
         let k : ℕ = (p + 1) - length (pieces_lexemes done) in
         let e : p + 1 ≡ length (pieces_lexemes done) + k = omega (arith, early) in
-        let share = shared_of shown.statement (p + 1) k shown.rest e (omega (arith, early)) any shown.shared in
+        ⊎_elim (λ share.
         ⊎_elim (λ h. absurd (stand.quiet shown.front h.0 shown.piece p d h.1 shown.shows))
         (λ other. ⊎_elim (λ next. refused_term p k d (statement_pieces shown.statement) shown.rest share
         (term_shows s.counts s.lexemes done kind left share.word p d (subst (λ r. Shows s.counts s.lexemes done r p d) next.1 (subst (λ ps. Shows s.counts s.lexemes ps shown.piece p d) next.0 shown.shows))))
         (λ later. absurd (refused_later p k (statement_pieces shown.statement) shown.rest share (omega (arith, early, short)) (omega (arith, early, outer, all_of)) e shown.front later.0 later.1
         (shows_from s.counts s.lexemes shown.front shown.piece p d shown.shows))) other)
-        (placed_in (statement_pieces shown.statement) done (term kind left share.word) share.others shown.front shown.piece shown.back share.written shown.written)
+        (placed_in (statement_pieces shown.statement) done (term kind left share.word) share.others shown.front shown.piece shown.back share.written shown.written))
+        (λ other. absurd (name_quiet p k d shown.rest shown other))
+        (shared_of shown.statement (p + 1) k shown.rest e (omega (arith, early)) any shown.shared)
 
     pub word_refused : IsFirstCause s.counts s.lexemes (length (pieces_lexemes done) + q) c
     word_refused = record {
@@ -670,7 +807,7 @@ module _ (s : Start) (kind : Option Counted) (left : Option Word) (f : Word → 
         let front : r ≡ 0 = omega (arith, e, at) in
         first_lexeme ahead d (subst (λ m. words.IsShown ahead m d) front (subst (λ ys. words.IsShown ys r d) ahead_of shown))
     full_term p k d w e (long u side g whole too_long) = absurd (some_none u (sym side ∙ alone))
-    full_term p k d w e (many g whole too_many) = g
+    full_term p k d w e (many g whole too_many apart) = g
 
     full_late : (p : ℕ) (d : Cause) → IsShown s.counts s.lexemes p d → (length (pieces_lexemes done) < p) ⊎ ((length (pieces_lexemes done) ≡ p) × (7 ≤ cause_number d))
     full_late p d shown =
@@ -678,8 +815,8 @@ module _ (s : Start) (kind : Option Counted) (left : Option Word) (f : Word → 
         ⊎_elim (λ less. inl less)
         (λ short.
         let same : p ≡ length (pieces_lexemes done) = omega (arith, early, short) in
-        let share = shared_of shown.statement (p + 1) 1 shown.rest (omega (arith, same)) (omega arith) (omega (arith, ap length next)) shown.shared in
         let late = shows_from s.counts s.lexemes shown.front shown.piece p d shown.shows in
+        ⊎_elim (λ share.
         ⊎_elim (λ h. absurd (stand.quiet shown.front h.0 shown.piece p d h.1 shown.shows))
         (λ other. ⊎_elim (λ at.
         let g = full_term p 1 d share.word same
@@ -695,6 +832,8 @@ module _ (s : Start) (kind : Option Counted) (left : Option Word) (f : Word → 
           length-append (word_lexemes share.word) (pieces_lexemes later.0),
         ))) other)
         (placed_in (statement_pieces shown.statement) done (term kind left share.word) share.others shown.front shown.piece shown.back share.written shown.written))
+        (λ other. absurd (name_quiet p 1 d shown.rest shown other))
+        (shared_of shown.statement (p + 1) 1 shown.rest (omega (arith, same)) (omega arith) (omega (arith, ap length next)) shown.shared))
         (cases_lt (length (pieces_lexemes done)) p)
 
     pub word_full : IsFirstCause s.counts s.lexemes (length (pieces_lexemes done)) cause.TooMany

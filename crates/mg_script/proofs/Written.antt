@@ -1,19 +1,19 @@
 -- The pieces of statements are what the grammar reads from left to right, and no others are.
-use Rattle.std.proofs.Common.{◌≡◌, ⊎_elim, ℕ, zero, suc, Option, Some, None, List, [], ◌∷◌, ◌++◌, map, refl, sym, ap, subst, length}
+use Rattle.std.proofs.Common.{◌≡◌, ⊎_elim, ℕ, zero, suc, Option, Some, None, List, [], ◌∷◌, ◌++◌, map, refl, sym, ap, subst, ◌∙◌, length}
 use Rattle.mg_lex.specs.declared.keyword.Keyword.{Keyword}
 use Rattle.mg_lex.specs.declared.keyword.Keyword.TheVariants as keyword
 use Rattle.mg_lex.specs.declared.mark.Mark.{Mark}
 use Rattle.mg_lex.specs.declared.mark.Mark.TheVariants as mark
 use Rattle.mg_terms.specs.declared.lexeme.Lexeme.TheVariants as lexeme
-use Rattle.mg_terms.specs.Word.{name, one, round, commutator, bare, power, Word, single, times}
+use Rattle.mg_terms.specs.Word.{Word}
 use Rattle.mg_words.specs.declared.procedure.Procedure.{Procedure}
 use Rattle.mg_script.specs.declared.counted.Counted.{Counted}
 use Rattle.mg_script.specs.declared.counted.Counted.TheVariants as counted
 use Rattle.mg_script.specs.declared.form.Printed.{Printed}
 use Rattle.mg_script.specs.declared.form.Printed.TheVariants as printed
-use Rattle.mg_script.specs.Statement.{Relation, Question, equal, member, vanishes, central, has, Statement, group, word, subgroup, mapping, ask, fund, grant, run, cancel, report, Piece, sign, a_name, counted_name, a_word, the_mark, the_keyword, the_number, listed, generator_names, bar_pieces, property_keyword, procedure_keyword, name_alone, question_pieces, bound_pieces, printed_pieces, statement_pieces}
-use Rattle.mg_script.specs.Grammar.{listed_name, listed_word, listed_relation, listed_arrow, this, a_number, a_procedure, a_property, Rest, end, sign_then, word_then, either, name_then, counted_name_then, mark_then, keyword_then, list_then, Reads, reads_end, reads_sign, reads_word, reads_first, reads_second, close_group, relations_rest, bar_rest, group_rest, word_rest, subgroup_rest, map_rest, in_group, in_rest, words_rest, asked_rest, ask_rest, fund_rest, grant_rest, run_rest, cancel_rest, report_rest, statement_rest}
-use Rattle.mg_script.proofs.Rests.{end_inv, sign_inv, this_inv, word_inv, either_inv, reads_this, list_reads, list_inv, item_pieces}
+use Rattle.mg_script.specs.Statement.{Relation, Question, equal, member, vanishes, central, has, Statement, group, word, subgroup, mapping, ask, fund, grant, run, cancel, report, Piece, sign, a_name, counted_name, a_word, the_mark, the_keyword, the_number, listed, generator_names, bar_pieces, property_keyword, procedure_keyword, question_pieces, bound_pieces, printed_pieces, statement_pieces}
+use Rattle.mg_script.specs.Grammar.{listed_name, listed_word, listed_relation, listed_arrow, this, a_number, a_procedure, a_property, Rest, end, sign_then, word_then, either, name_then, counted_name_then, mark_then, keyword_then, list_then, Reads, reads_end, reads_sign, reads_word, reads_first, reads_second, reads_one, reads_other, property_rest, first_word_rest, close_group, relations_rest, bar_rest, group_rest, word_rest, subgroup_rest, map_rest, in_group, in_rest, words_rest, asked_rest, ask_rest, fund_rest, grant_rest, run_rest, cancel_rest, report_rest, statement_rest}
+use Rattle.mg_script.proofs.Rests.{end_inv, sign_inv, this_inv, word_inv, either_inv, by_two_inv, reads_this, list_reads, list_inv, item_pieces}
 
 -- a statement behind its keyword
 name_reads : (r : Rest) (ps : List Piece) → Reads r ps → Reads (name_then r) (a_name ∷ ps)
@@ -47,23 +47,18 @@ bar_reads None = reads_second _ _ _ (mark_reads mark.Greater end [] reads_end)
 bar_reads (Some rs) =
     reads_first _ _ _ (mark_reads mark.Bar relations_rest _ (list_reads listed_relation rs close_group _ (mark_reads mark.Greater end [] reads_end)))
 
-asked_more : (w : Word) (ps : List Piece) → Reads words_rest ps → Reads (asked_rest w) ps
-asked_more (single (bare name)) ps reads = reads_second _ _ ps reads
-asked_more (single (bare one)) ps reads = reads
-asked_more (single (bare (round w))) ps reads = reads
-asked_more (single (bare (commutator u v))) ps reads = reads
-asked_more (single (power b negative n)) ps reads = reads
-asked_more (times w star f) ps reads = reads
-
 in_reads : Reads in_group (the_keyword keyword.In ∷ a_name ∷ [])
 in_reads = keyword_reads keyword.In _ _ (name_reads end [] reads_end)
 
-question_reads : (q : Question) → Reads (word_then None None asked_rest) (question_pieces q)
-question_reads (equal u v) = reads_word _ _ _ u _ (asked_more u _ (reads_first _ _ _ (mark_reads mark.Equals _ _ (reads_word None None (λ w. in_group) v _ in_reads))))
-question_reads (member w) = reads_word _ _ _ w _ (asked_more w _ (reads_second _ _ _ (reads_first _ _ _ (keyword_reads keyword.In in_rest _ (reads_first _ _ _ (name_reads end [] reads_end))))))
-question_reads (vanishes w) = reads_word _ _ _ w _ (asked_more w _ (reads_second _ _ _ (reads_first _ _ _ (keyword_reads keyword.In in_rest _ (reads_second _ _ _ (keyword_reads keyword.Kernel _ _ (name_reads end [] reads_end)))))))
-question_reads (central w) = reads_word _ _ _ w _ (asked_more w _ (reads_second _ _ _ (reads_second _ _ _ (keyword_reads keyword.Central _ _ in_reads))))
-question_reads (has p) = reads_word _ _ _ name_alone _ (reads_first _ _ _ (reads_sign None a_property end (lexeme.Keyword (property_keyword p)) [] (p, refl) reads_end))
+first_reads : (w : Word) (ps : List Piece) → Reads words_rest ps → Reads asked_rest (a_word w ∷ ps)
+first_reads w ps reads = reads_other property_rest first_word_rest _ (reads_word None None (λ v. words_rest) w ps reads)
+
+question_reads : (q : Question) → Reads asked_rest (question_pieces q)
+question_reads (equal u v) = first_reads u _ (reads_first _ _ _ (mark_reads mark.Equals _ _ (reads_word None None (λ w. in_group) v _ in_reads)))
+question_reads (member w) = first_reads w _ (reads_second _ _ _ (reads_first _ _ _ (keyword_reads keyword.In in_rest _ (reads_first _ _ _ (name_reads end [] reads_end)))))
+question_reads (vanishes w) = first_reads w _ (reads_second _ _ _ (reads_first _ _ _ (keyword_reads keyword.In in_rest _ (reads_second _ _ _ (keyword_reads keyword.Kernel _ _ (name_reads end [] reads_end))))))
+question_reads (central w) = first_reads w _ (reads_second _ _ _ (reads_second _ _ _ (keyword_reads keyword.Central _ _ in_reads)))
+question_reads (has p) = reads_one property_rest first_word_rest _ (name_reads _ _ (reads_sign None a_property end (lexeme.Keyword (property_keyword p)) [] (p, refl) reads_end))
 
 bound_reads : (bound : Option ℕ) → Reads run_rest (bound_pieces bound)
 bound_reads None = reads_second _ _ _ reads_end
@@ -189,23 +184,21 @@ words_inv w ps reads =
     (either_inv (keyword_then keyword.In in_rest) (keyword_then keyword.Central in_group) ps other))
     (either_inv (mark_then mark.Equals (word_then None None (λ v. in_group))) _ ps reads)
 
-asked_inv : (w : Word) (ps : List Piece) → Reads (asked_rest w) ps → IsQuestion (a_word w ∷ ps)
-asked_inv (single (bare name)) ps reads =
-    ⊎_elim (λ property. let h = sign_inv _ a_property end ps property in (has h.in_class.0, cc (h.split, h.in_class.1, end_inv h.others h.reads)))
-    (λ other. words_inv name_alone ps other) (either_inv (sign_then None a_property end) words_rest ps reads)
-asked_inv (single (bare one)) ps reads = words_inv (single (bare one)) ps reads
-asked_inv (single (bare (round w))) ps reads = words_inv (single (bare (round w))) ps reads
-asked_inv (single (bare (commutator u v))) ps reads = words_inv (single (bare (commutator u v))) ps reads
-asked_inv (single (power b negative n)) ps reads = words_inv (single (power b negative n)) ps reads
-asked_inv (times w star f) ps reads = words_inv (times w star f) ps reads
+asked_inv : (ps : List Piece) → Reads asked_rest ps → IsQuestion ps
+asked_inv ps reads =
+    ⊎_elim (λ property.
+    let h = this_inv _ lexeme.Name (sign_then None a_property end) ps property in
+    let k = sign_inv _ a_property end h.0 h.2 in
+    (has k.in_class.0, cc (h.1, k.split, k.in_class.1, end_inv k.others k.reads)))
+    (λ words. let w = word_inv None None (λ v. words_rest) ps words in let q = words_inv w.word w.others w.reads in (q.0, q.1 ∙ sym w.split))
+    (by_two_inv property_rest first_word_rest ps reads)
 
 ask_inv : (ps : List Piece) → Reads ask_rest ps → IsTree (the_keyword keyword.Ask ∷ ps)
 ask_inv ps reads =
     let a = this_inv _ lexeme.Name _ ps reads in
     let b = this_inv _ (lexeme.Mark mark.Colon) _ a.0 a.2 in
-    let w = word_inv None None asked_rest b.0 b.2 in
-    let q = asked_inv w.word w.others w.reads in
-    (ask q.0, cc (a.1, b.1, w.split, q.1))
+    let q = asked_inv b.0 b.2 in
+    (ask q.0, cc (a.1, b.1, q.1))
 
 number_inv : (ps : List Piece) → Reads (sign_then None a_number end) ps → (n : ℕ) × (the_number n ∷ [] ≡ ps)
 number_inv ps reads = let h = sign_inv _ a_number end ps reads in (h.in_class.0, cc (h.split, h.in_class.1, end_inv h.others h.reads))

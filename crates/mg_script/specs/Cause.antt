@@ -11,8 +11,9 @@ use Rattle.mg_terms.specs.Cause as words
 use Rattle.mg_script.specs.declared.counted.Counted.{Counted}
 use Rattle.mg_script.specs.declared.counted.Counts.{Counts}
 use Rattle.mg_script.specs.declared.counted.TheConstants.{LETTER_LIMIT}
+use Rattle.mg_script.specs.declared.form.Property.{Property}
 use Rattle.mg_script.specs.Count.{limit_of, count_of, how_many, letters_in}
-use Rattle.mg_script.specs.Statement.{Piece, sign, term, pieces_lexemes, Statement, statement_pieces, statement_lexemes}
+use Rattle.mg_script.specs.Statement.{Piece, sign, term, pieces_lexemes, has, Statement, ask, statement_pieces, statement_lexemes}
 
 -- the lexemes are a statement
 abbrev pub IsStatement : List Lexeme → Type 0
@@ -35,6 +36,10 @@ pub record IsWhole (xs : List Lexeme) (k : ℕ) (w : Word) (p : ℕ) : Type 0 wh
   pub last : p + 1 ≡ k + length (word_lexemes w)
   pub ended : EndsBefore w (drop (p + 1) xs)
 
+-- the lexemes up to and with the one behind the place are a question about a name, which is no word
+abbrev pub IsNameAsked : List Lexeme → ℕ → Type 0
+IsNameAsked xs p = (property : Property) × (statement_lexemes (ask (has property)) ≡ take (p + 2) xs)
+
 -- a piece that is counted so is one too many behind the pieces in front
 abbrev pub IsOneTooMany : Counts → List Piece → Option Counted → Type 0
 IsOneTooMany counts front None = ⊥
@@ -42,7 +47,7 @@ IsOneTooMany counts front (Some k) = limit_of k ≤ count_of counts k + how_many
 
 -- A piece behind those in front shows a cause at a place: at its first lexeme where it is one too many; where a word
 -- does so itself; at the last lexeme of a relation u = v where u v^-1 has too many letters; and at the last lexeme
--- of a word with which all words have too many.
+-- of a word with which all words have too many, unless it is a name that a question is about.
 pub data Shows (counts : Counts) (xs : List Lexeme) (front : List Piece) : Piece → ℕ → Cause → Type 0 where
   one_sign_too_many : (kind : Option Counted) (x : Lexeme) (p : ℕ) → p ≡ length (pieces_lexemes front) →
       IsOneTooMany counts front kind → Shows counts xs front (sign kind x) p cause.TooMany
@@ -53,7 +58,7 @@ pub data Shows (counts : Counts) (xs : List Lexeme) (front : List Piece) : Piece
   long_relation : (kind : Option Counted) (u v : Word) (p : ℕ) → IsWhole xs (length (pieces_lexemes front)) v p →
       WORD_LIMIT < word_letters u + word_letters v → Shows counts xs front (term kind (Some u) v) p cause.WordTooLong
   too_many_letters : (kind : Option Counted) (left : Option Word) (w : Word) (p : ℕ) → IsWhole xs (length (pieces_lexemes front)) w p →
-      LETTER_LIMIT < counts.letters + (letters_in front + word_letters w) → Shows counts xs front (term kind left w) p cause.TooMany
+      LETTER_LIMIT < counts.letters + (letters_in front + word_letters w) → (IsNameAsked xs p → ⊥) → Shows counts xs front (term kind left w) p cause.TooMany
 
 -- a piece of a statement that begins with the lexemes up to and with the place shows the cause there
 pub record IsShown (counts : Counts) (xs : List Lexeme) (p : ℕ) (c : Cause) : Type 0 where

@@ -1,25 +1,27 @@
 -- What is counted in a script.
 use Rattle.std.specs.Prelude.{◌≡◌, ℕ, ◌+◌, ◌≤◌, ◌==◌, Bool, false, Option, Some, None, List, [], ◌∷◌, filter, length}
+use Rattle.mg_present.specs.declared.presentation.TheConstants.{MOST_GENERATORS, MOST_RELATORS}
+use Rattle.mg_present.specs.declared.ask.TheConstants.{MOST_SUBGROUP_WORDS}
 use Rattle.mg_terms.specs.declared.limits.TheConstants.{WORD_LIMIT}
 use Rattle.mg_terms.specs.Event.{AreWithin, word_events}
 use Rattle.mg_terms.specs.Word.{Word, word_letters}
 use Rattle.mg_script.specs.declared.counted.Counted.{Counted}
 use Rattle.mg_script.specs.declared.counted.Counted.TheVariants as counted
 use Rattle.mg_script.specs.declared.counted.Counts.{Counts}
-use Rattle.mg_script.specs.declared.counted.TheConstants.{LETTER_LIMIT}
+use Rattle.mg_script.specs.declared.counted.TheConstants.{LETTER_LIMIT, MOST_GROUPS, MOST_WORDS, MOST_SUBGROUPS, MOST_MAPS, MOST_QUESTIONS, MOST_REPORTS}
 use Rattle.mg_script.specs.Statement.{Piece, sign, term}
 
 -- how many there may be
 abbrev pub limit_of : Counted → ℕ
-limit_of counted.Groups = 64
-limit_of counted.Words = 1024
-limit_of counted.Subgroups = 256
-limit_of counted.Maps = 256
-limit_of counted.Questions = 1024
-limit_of counted.Generators = 64
-limit_of counted.Relators = 256
-limit_of counted.Members = 64
-limit_of counted.Reports = 64
+limit_of counted.Groups = MOST_GROUPS
+limit_of counted.Words = MOST_WORDS
+limit_of counted.Subgroups = MOST_SUBGROUPS
+limit_of counted.Maps = MOST_MAPS
+limit_of counted.Questions = MOST_QUESTIONS
+limit_of counted.Generators = MOST_GENERATORS
+limit_of counted.Relators = MOST_RELATORS
+limit_of counted.Members = MOST_SUBGROUP_WORDS
+limit_of counted.Reports = MOST_REPORTS
 
 abbrev pub count_of : Counts → Counted → ℕ
 count_of c counted.Groups = c.groups

@@ -1,18 +1,18 @@
 -- The grammar of statements from left to right: what may stand behind a beginning.
-use Rattle.std.specs.Prelude.{◌≡◌, ◌⊎◌, ℕ, Option, Some, None, List, [], ◌∷◌}
+use Rattle.std.specs.Prelude.{◌≡◌, ◌⊎◌, ℕ, Option, Some, None, List, [], ◌∷◌, take}
 use Rattle.mg_lex.specs.declared.keyword.Keyword.{Keyword}
 use Rattle.mg_lex.specs.declared.keyword.Keyword.TheVariants as keyword
 use Rattle.mg_lex.specs.declared.mark.Mark.{Mark}
 use Rattle.mg_lex.specs.declared.mark.Mark.TheVariants as mark
 use Rattle.mg_terms.specs.declared.lexeme.Lexeme.{Lexeme}
 use Rattle.mg_terms.specs.declared.lexeme.Lexeme.TheVariants as lexeme
-use Rattle.mg_terms.specs.Word.{name, bare, Word, single}
+use Rattle.mg_terms.specs.Word.{Word}
 use Rattle.mg_terms.specs.Beginning.{BeginsBase, GoesOn}
 use Rattle.mg_words.specs.declared.procedure.Procedure.{Procedure}
 use Rattle.mg_script.specs.declared.counted.Counted.{Counted}
 use Rattle.mg_script.specs.declared.counted.Counted.TheVariants as counted
 use Rattle.mg_script.specs.declared.form.Property.{Property}
-use Rattle.mg_script.specs.Statement.{Piece, sign, term, property_keyword, procedure_keyword}
+use Rattle.mg_script.specs.Statement.{Piece, sign, term, pieces_lexemes, property_keyword, procedure_keyword}
 
 -- a class of lexemes
 pub data Class : Type 0 where
@@ -35,13 +35,15 @@ pub data Item : Type 0 where
   listed_arrow : Item
 
 -- What may stand behind a beginning: nothing; a lexeme of a class, and what may stand behind that; a word,
--- maybe on the right side of a relation, and what may stand behind that word; one of two; more members of
--- a list, each behind a comma, and what may stand behind the list.
+-- maybe on the right side of a relation, and what may stand behind that word; one of two, which the next lexeme
+-- tells; one of two, which the next two lexemes tell; more members of a list, each behind a comma, and what may stand
+-- behind the list.
 pub data Rest : Type 0 where
   end : Rest
   sign_then : Option Counted → Class → Rest → Rest
   word_then : Option Counted → (left : Option Word) → (Word → Rest) → Rest
   either : Rest → Rest → Rest
+  either_by_two : Rest → Rest → Rest
   more : Item → Rest → Rest
 
 abbrev pub name_then : Rest → Rest
@@ -81,6 +83,8 @@ pub data Reads : Rest → List Piece → Type 0 where
       Reads (word_then kind left f) (term kind left w ∷ ps)
   reads_first : (a b : Rest) (ps : List Piece) → Reads a ps → Reads (either a b) ps
   reads_second : (a b : Rest) (ps : List Piece) → Reads b ps → Reads (either a b) ps
+  reads_one : (a b : Rest) (ps : List Piece) → Reads a ps → Reads (either_by_two a b) ps
+  reads_other : (a b : Rest) (ps : List Piece) → Reads b ps → Reads (either_by_two a b) ps
   reads_more : (i : Item) (r : Rest) (ps : List Piece) → Reads (comma_then i r) ps → Reads (more i r) ps
   reads_last : (i : Item) (r : Rest) (ps : List Piece) → Reads r ps → Reads (more i r) ps
 
@@ -90,6 +94,7 @@ Begins end x = ⊥
 Begins (sign_then kind c r) x = IsIn c x
 Begins (word_then kind left f) x = BeginsBase x
 Begins (either a b) x = Begins a x ⊎ Begins b x
+Begins (either_by_two a b) x = Begins a x ⊎ Begins b x
 Begins (more i r) x = (x ≡ lexeme.Mark mark.Comma) ⊎ Begins r x
 
 abbrev pub CanEnd : Rest → Type 0
@@ -97,18 +102,25 @@ CanEnd end = Unit {0}
 CanEnd (sign_then kind c r) = ⊥
 CanEnd (word_then kind left f) = ⊥
 CanEnd (either a b) = CanEnd a ⊎ CanEnd b
+CanEnd (either_by_two a b) = CanEnd a ⊎ CanEnd b
 CanEnd (more i r) = CanEnd r
 
 -- a lexeme behind a list
 abbrev pub EndsList : Lexeme → Type 0
 EndsList x = (x ≡ lexeme.Mark mark.Greater) ⊎ ((x ≡ lexeme.Mark mark.Bar) ⊎ (x ≡ lexeme.Mark mark.CloseSquare))
 
--- the next lexeme tells what comes, all the way
+-- no lexemes that are read as the one begin with the same two as some that are read as the other
+abbrev pub AreApart : Rest → Rest → Type 0
+AreApart a b =
+    (ps qs : List Piece) → Reads a ps → Reads b qs → take 2 (pieces_lexemes ps) ≡ take 2 (pieces_lexemes qs) → ⊥
+
+-- the next lexeme tells what comes, or the next two do, all the way
 abbrev pub Tells : Rest → Type 0
 Tells end = Unit {0}
 Tells (sign_then kind c r) = Tells r
 Tells (word_then kind left f) = (w : Word) → Tells (f w) × ((x : Lexeme) → Begins (f w) x → ¬ GoesOn w x)
 Tells (either a b) = Tells a × Tells b × ((x : Lexeme) → Begins a x → Begins b x → ⊥) × (CanEnd a → CanEnd b → ⊥)
+Tells (either_by_two a b) = Tells a × Tells b × AreApart a b
 Tells (more i r) = Tells r × ((x : Lexeme) → Begins r x → EndsList x) × (¬ CanEnd r)
 
 -- the forms of statements behind their keywords
@@ -147,13 +159,18 @@ words_rest =
     either (mark_then mark.Equals (word_then None None (λ v. in_group)))
     (either (keyword_then keyword.In in_rest) (keyword_then keyword.Central in_group))
 
--- behind the first word of a question
-abbrev pub asked_rest : Word → Rest
-asked_rest (single (bare name)) = either (sign_then None a_property end) words_rest
-asked_rest _ = words_rest
+-- what has a property, and what is asked of words
+abbrev pub property_rest : Rest
+property_rest = name_then (sign_then None a_property end)
+
+abbrev pub first_word_rest : Rest
+first_word_rest = word_then None None (λ w. words_rest)
+
+abbrev pub asked_rest : Rest
+asked_rest = either_by_two property_rest first_word_rest
 
 abbrev pub ask_rest : Rest
-ask_rest = counted_name_then counted.Questions (mark_then mark.Colon (word_then None None asked_rest))
+ask_rest = counted_name_then counted.Questions (mark_then mark.Colon asked_rest)
 
 abbrev pub fund_rest : Rest
 fund_rest = sign_then None a_number end

@@ -19,7 +19,7 @@ use Rattle.mg_script.specs.declared.reader.Reader.{Reader}
 use Rattle.mg_script.specs.Statement.{Piece, sign, Statement, statement_pieces, statement_lexemes, pieces_lexemes}
 use Rattle.mg_script.specs.Count.{count_of, how_many, Adds, IsBounded, AreWithinLimits}
 use Rattle.mg_script.specs.Cause.{Shows, IsShown, IsFaultless, IsFirstCause}
-use Rattle.mg_script.specs.Grammar.{Class, this, a_number, a_procedure, a_property, IsIn, Rest, sign_then, Reads, Tells}
+use Rattle.mg_script.specs.Grammar.{Class, this, a_number, a_procedure, a_property, IsIn, Rest, sign_then, word_then, words_rest, asked_rest, Reads, Tells}
 
 -- what is to be read: lexemes, with what has been counted before
 pub record Start : Type 0 where
@@ -125,6 +125,15 @@ IsNext r c = (x : Lexeme) × (xs : List Lexeme) × (drop r.place r.lexemes.now �
 -- a word begins with the next lexeme
 abbrev pub BeginsWord : Reader → Type 0
 BeginsWord r = (x : Lexeme) × (xs : List Lexeme) × (drop r.place r.lexemes.now ≡ x ∷ xs) × BeginsBase x
+
+-- a name and a property come next
+abbrev pub IsPropertyNext : List Lexeme → Type 0
+IsPropertyNext ahead = (x : Lexeme) × (xs : List Lexeme) × (ahead ≡ lexeme.Name ∷ x ∷ xs) × IsIn a_property x
+
+-- with what is ahead, the rest is a word and what may follow it
+pub data IsWordThen (ahead : List Lexeme) : Option Counted → Option Word → (Word → Rest) → Rest → Type 0 where
+  any_word : (kind : Option Counted) (left : Option Word) (f : Word → Rest) → IsWordThen ahead kind left f (word_then kind left f)
+  no_property : (IsPropertyNext ahead → ⊥) → IsWordThen ahead None None (λ w. words_rest) asked_rest
 
 -- one more is counted so
 abbrev pub AddsOne : Option Counted → Counts → Counts → Type 0

@@ -6,7 +6,7 @@ use Rattle.mg_lex.specs.declared.mark.Mark.{Mark}
 use Rattle.mg_lex.specs.declared.mark.Mark.TheVariants as mark
 use Rattle.mg_terms.specs.declared.lexeme.Lexeme.{Lexeme}
 use Rattle.mg_terms.specs.declared.lexeme.Lexeme.TheVariants as lexeme
-use Rattle.mg_terms.specs.Word.{name, bare, Word, single, word_lexemes}
+use Rattle.mg_terms.specs.Word.{Word, word_lexemes}
 use Rattle.mg_words.specs.declared.procedure.Procedure.{Procedure}
 use Rattle.mg_words.specs.declared.procedure.Procedure.TheVariants as procedure
 use Rattle.mg_script.specs.declared.counted.Counted.{Counted}
@@ -124,16 +124,13 @@ procedure_keyword procedure.Cosets = keyword.Cosets
 procedure_keyword procedure.Nielsen = keyword.Nielsen
 procedure_keyword procedure.Recall = keyword.Recall
 
--- the word that is a name alone
-abbrev pub name_alone : Word
-name_alone = single (bare name)
-
+-- how a question is written: what has a property is a name, and no word
 abbrev pub question_pieces : Question → List Piece
 question_pieces (equal u v) = a_word u ∷ the_mark mark.Equals ∷ a_word v ∷ the_keyword keyword.In ∷ a_name ∷ []
 question_pieces (member w) = a_word w ∷ the_keyword keyword.In ∷ a_name ∷ []
 question_pieces (vanishes w) = a_word w ∷ the_keyword keyword.In ∷ the_keyword keyword.Kernel ∷ a_name ∷ []
 question_pieces (central w) = a_word w ∷ the_keyword keyword.Central ∷ the_keyword keyword.In ∷ a_name ∷ []
-question_pieces (has p) = a_word name_alone ∷ the_keyword (property_keyword p) ∷ []
+question_pieces (has p) = a_name ∷ the_keyword (property_keyword p) ∷ []
 
 abbrev pub bound_pieces : Option ℕ → List Piece
 bound_pieces None = []

@@ -6,6 +6,8 @@ ghost use Rattle.mg_script.specs.Cause.{IsOneTooMany};
 ghost use Rattle.mg_script.specs.Reader.{AddsOne, numbers};
 ghost use Rattle.mg_script.specs.Script.{no_counts, counted_anew};
 
+use mg_present::{MOST_GENERATORS, MOST_RELATORS, MOST_SUBGROUP_WORDS};
+
 /// What is counted in a script. The numbers of generators, relators and subgroup words are those of one
 /// statement, the others those of the whole script.
 #[derive(Clone, Copy, Debug, PartialEq, Eq)]
@@ -23,6 +25,24 @@ pub enum Counted {
     Reports,
 }
 
+/// The most groups of a script.
+pub const MOST_GROUPS: u32 = 64;
+
+/// The most declared words of a script.
+pub const MOST_WORDS: u32 = 1_024;
+
+/// The most subgroups of a script.
+pub const MOST_SUBGROUPS: u32 = 256;
+
+/// The most maps of a script.
+pub const MOST_MAPS: u32 = 256;
+
+/// The most questions of a script.
+pub const MOST_QUESTIONS: u32 = 1_024;
+
+/// The most reports of a script, of all forms together.
+pub const MOST_REPORTS: u32 = 64;
+
 /// The most letters that all words of a script may have together, written out.
 pub const LETTER_LIMIT: u32 = 1_000_000;
 
@@ -32,15 +52,15 @@ impl Counted {
         ensures { result ≡ limit_of self }
     {
         match self {
-            Counted::Groups => 64,
-            Counted::Words => 1_024,
-            Counted::Subgroups => 256,
-            Counted::Maps => 256,
-            Counted::Questions => 1_024,
-            Counted::Generators => 64,
-            Counted::Relators => 256,
-            Counted::Members => 64,
-            Counted::Reports => 64,
+            Counted::Groups => MOST_GROUPS,
+            Counted::Words => MOST_WORDS,
+            Counted::Subgroups => MOST_SUBGROUPS,
+            Counted::Maps => MOST_MAPS,
+            Counted::Questions => MOST_QUESTIONS,
+            Counted::Generators => MOST_GENERATORS,
+            Counted::Relators => MOST_RELATORS as u32,
+            Counted::Members => MOST_SUBGROUP_WORDS as u32,
+            Counted::Reports => MOST_REPORTS,
         }
     }
 }
@@ -121,7 +141,8 @@ impl Counts {
     /// The counts with one more of these.
     fn one_more(self, counted: Counted) -> Counts
         requires { count_of self counted < limit_of counted }
-        ensures numbers { numbers result ≡ set (numbers self) (counted_number counted) (count_of self counted + 1) }
+        ensures numbers { numbers result ≡ set (numbers self) (counted_number counted)
+            (count_of self counted + 1) }
         ensures letters { result.letters ≡ self.letters }
     {
         match counted {

@@ -1,10 +1,7 @@
 //! Reads statements, form by form.
 
-ghost use Rattle.std.specs.Prelude.{◌≡◌};
-ghost use Rattle.mg_terms.specs.Word.{Word};
-ghost use Rattle.mg_script.specs.Statement.{name_alone};
 ghost use Rattle.mg_script.specs.Grammar.{end, statement_rest, word_rest, ask_rest, asked_rest, words_rest, in_rest, from_fund, from_report};
-ghost use Rattle.mg_script.specs.Reader.{Start, Knows, Brings, Finishes, IsOf};
+ghost use Rattle.mg_script.specs.Reader.{Start, Knows, Brings, Finishes};
 
 use crate::counted::Counted;
 use crate::fault::StatementFault;
@@ -13,7 +10,6 @@ use crate::sign::{
     EQUALS, Expected, NAME, NUMBER, PROCEDURE, REPORT, Role, counted_name, keyword, mark,
 };
 use mg_lex::{Cause, Keyword, Mark};
-use mg_terms::WordRead;
 
 impl<'a> Reader<'a> {
     /// Takes a statement.
@@ -83,31 +79,23 @@ impl<'a> Reader<'a> {
         ensures { (s : Start) → Knows s ask_rest self.old → Brings s end self.new result }
     {
         self.signs(&[counted_name(Counted::Questions), mark(Mark::Colon)])?;
-        let word = self.word(Role::Plain)?;
-        self.asked(word)
+        self.asked()
     }
 
-    /// Takes what is asked of the word.
-    fn asked(&mut self, word: WordRead) -> Result<(), StatementFault>
-        ensures { (s : Start) (w : Word) → IsOf w word → Knows s (asked_rest w) self.old → Brings s end self.new result }
+    /// Takes a name and its property, or a word and what is asked of it. A name is known by the property
+    /// behind it, and counts no letter.
+    fn asked(&mut self) -> Result<(), StatementFault>
+        ensures { (s : Start) → Knows s asked_rest self.old → Brings s end self.new result }
     {
-        if word.count == 1 && word.letters == 1 {
-            return self.asked_of_name();
-        }
-        self.asked_of_word()
-    }
-
-    /// Takes what is asked of a name alone.
-    fn asked_of_name(&mut self) -> Result<(), StatementFault>
-        ensures { (s : Start) → Knows s (asked_rest name_alone) self.old → Brings s end self.new result }
-    {
-        if self.takes(Expected::Property) {
+        if self.is_property_next() {
+            self.place += 2;
             return Ok(());
         }
+        self.word(Role::Plain)?;
         self.asked_of_word()
     }
 
-    /// Takes what is asked of any word.
+    /// Takes what is asked of a word.
     fn asked_of_word(&mut self) -> Result<(), StatementFault>
         ensures { (s : Start) → Knows s words_rest self.old → Brings s end self.new result }
     {

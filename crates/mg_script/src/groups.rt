@@ -27,7 +27,8 @@ impl<'a> Reader<'a> {
 
     /// Takes the bar and the relations of a group, which may be left out together.
     fn relations(&mut self) -> Result<(), StatementFault>
-        ensures { (s : Start) (r : Rest) → Knows s (either (mark_then Mark.Bar (list_then listed_relation r)) r) self.old →
+        ensures { (s : Start) (r : Rest) →
+            Knows s (either (mark_then Mark.Bar (list_then listed_relation r)) r) self.old →
             Brings s r self.new result }
     {
         if self.takes(BAR) {

@@ -38,7 +38,8 @@ pub(crate) fn read_line(
     requires within { AreWithinLimits counts }
     ensures skipped { IfOk result (λ kept. IfNone kept (IsSkipped line.now)) }
     ensures kept { IfOk result (λ kept. IfSome kept (λ k. IsKept counts number line.now k.line k.counts)) }
-    ensures refused { (r : Refused) → result ≡ Err (ParseRefused.Refused r) → IsLineRefusal counts line.now number r }
+    ensures refused { (r : Refused) → result ≡ Err (ParseRefused.Refused r) →
+        IsLineRefusal counts line.now number r }
 {
     let read = LineRead::of(alloc, line, number)?;
     if read.is_blank() {
@@ -121,7 +122,8 @@ impl LineRead {
     fn with(self, line: &[u8], token: Token) -> Result<LineRead, NoMemory>
         requires token { IsLongestAtStart line.now token }
         ensures tokens { IfOk result (λ read. read.tokens ≡ self.tokens ++ token ∷ []) }
-        ensures lexemes { AllZip (ReadsAs line.now) self.tokens self.lexemes → IfOk result (λ read. AllZip (ReadsAs line.now) read.tokens read.lexemes) }
+        ensures lexemes { AllZip (ReadsAs line.now) self.tokens self.lexemes →
+            IfOk result (λ read. AllZip (ReadsAs line.now) read.tokens read.lexemes) }
         ensures fault { IfOk result (λ read. read.fault ≡ self.fault) }
     {
         let mut read = self;
@@ -162,7 +164,9 @@ impl LineRead {
         requires short { length line.now < 2 ^ 32 - 1 }
         requires read { IsReadOf line.now number self.now }
         requires some { ¬ IsBlank self.now }
-        ensures { (counts : Counts) → IsFirstCause counts self.now.lexemes fault.place fault.cause → IsLineRefusal counts line.now number result }
+        ensures { (counts : Counts) →
+            IsFirstCause counts self.now.lexemes fault.place fault.cause →
+            IsLineRefusal counts line.now number result }
     {
         let refused = self.refusal_of(line, number, fault);
         match self.fault {
@@ -191,7 +195,8 @@ impl LineRead {
     fn column_of(&self, line: &[u8], place: usize) -> u32
         requires short { length line.now < 2 ^ 32 - 1 }
         requires read { AreRead line.now self.now.tokens }
-        ensures { MatchOption (slice_get self.now.tokens place) (result ≡ length line.now + 1) (λ t. result ≡ t.start + 1) }
+        ensures { MatchOption (slice_get self.now.tokens place) (result ≡ length line.now + 1)
+            (λ t. result ≡ t.start + 1) }
     {
         match self.tokens.as_slice().get(place) {
             Some(token) => token.start + 1,

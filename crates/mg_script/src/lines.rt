@@ -60,7 +60,8 @@ fn feed_place(bytes: &[u8]) -> usize
 
 /// The bytes without the carriage return at their end, if there is one.
 fn without_return(bytes: &[u8]) -> &[u8]
-    ensures { (bytes.now ≡ result.now ++ RETURN ∷ []) ⊎ ((bytes.now ≡ result.now) × (¬ EndsInReturn bytes.now)) }
+    ensures { (bytes.now ≡ result.now ++ RETURN ∷ []) ⊎ ((bytes.now ≡ result.now) ×
+        (¬ EndsInReturn bytes.now)) }
 {
     match bytes {
         [front @ .., RETURN] => front,

@@ -38,7 +38,8 @@ impl<'a> Reader<'a> {
 
     /// Takes a word, or an equation of two.
     fn relation(&mut self) -> Result<(), StatementFault>
-        ensures brings { (s : Start) (r : Rest) → Knows s (relation_then r) self.old → Brings s r self.new result }
+        ensures brings { (s : Start) (r : Rest) → Knows s (relation_then r) self.old →
+            Brings s r self.new result }
         ensures forward { OnOk result (unread self.new ≤ unread self.old) }
     {
         let left = self.word(Role::Counted(Counted::Relators))?;
@@ -50,7 +51,8 @@ impl<'a> Reader<'a> {
 
     /// Takes a name, an arrow and a word.
     fn arrow(&mut self) -> Result<(), StatementFault>
-        ensures brings { (s : Start) (r : Rest) → Knows s (item_then listed_arrow r) self.old → Brings s r self.new result }
+        ensures brings { (s : Start) (r : Rest) → Knows s (item_then listed_arrow r) self.old →
+            Brings s r self.new result }
         ensures forward { OnOk result (unread self.new ≤ unread self.old) }
     {
         self.sign(NAME)?;
@@ -61,7 +63,8 @@ impl<'a> Reader<'a> {
 
     /// Takes a word of a subgroup.
     fn subgroup_word(&mut self) -> Result<(), StatementFault>
-        ensures brings { (s : Start) (r : Rest) → Knows s (item_then listed_word r) self.old → Brings s r self.new result }
+        ensures brings { (s : Start) (r : Rest) → Knows s (item_then listed_word r) self.old →
+            Brings s r self.new result }
         ensures forward { OnOk result (unread self.new ≤ unread self.old) }
     {
         self.word(Role::Counted(Counted::Members))?;
@@ -84,7 +87,8 @@ impl<'a> Reader<'a> {
 
     /// Takes members with commas between them, which may be none.
     pub(crate) fn list(&mut self, member: Member) -> Result<(), StatementFault>
-        ensures { (s : Start) (r : Rest) → Knows s (list_then (item_of member) r) self.old → Brings s r self.new result }
+        ensures { (s : Start) (r : Rest) → Knows s (list_then (item_of member) r) self.old →
+            Brings s r self.new result }
     {
         if !self.begins(member) {
             return Ok(());

@@ -38,7 +38,8 @@ impl From<NoMemory> for ParseRefused {
 pub fn parse(alloc: Global, bytes: &[u8]) -> Result<Script, ParseRefused>
     requires { length bytes.now < 2 ^ 32 - 1 }
     ensures script { IfOk result (IsScript bytes.now) }
-    ensures refused { (r : Refused) → result ≡ Err (ParseRefused.Refused r) → IsRefused bytes.now r }
+    ensures refused { (r : Refused) → result ≡ Err (ParseRefused.Refused r) →
+        IsRefused bytes.now r }
 {
     let mut lines = Lines::of(bytes);
     let mut parser = Parser::new(alloc);
@@ -73,7 +74,8 @@ impl Parser {
         requires short { length line.now < 2 ^ 32 - 1 }
         requires few { self.old.number < 2 ^ 32 - 1 }
         requires within { AreWithinLimits self.old.counts }
-        ensures parsed { OnOk result ((front : List (List ℕ)) → AreParsed front self.old → AreParsed (front ++ line.now ∷ []) self.new) }
+        ensures parsed { OnOk result ((front : List (List ℕ)) → AreParsed front self.old →
+            AreParsed (front ++ line.now ∷ []) self.new) }
         ensures refused { (r : Refused) → result ≡ Err (ParseRefused.Refused r) →
             (front : List (List ℕ)) → AreParsed front self.old → IsRefusedBehind front line.now r }
     {

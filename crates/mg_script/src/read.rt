@@ -15,7 +15,8 @@ use mg_terms::Lexeme;
 /// first cause that stands in them. Answers the counts with those of the statement.
 pub fn read_statement(lexemes: &[Lexeme], counts: Counts) -> Result<Counts, StatementFault>
     ensures statement { IfOk result (λ after.
-        (s : Statement) × (statement_lexemes s ≡ lexemes.now) × Adds (statement_pieces s) counts after ×
+        (s : Statement) × (statement_lexemes s ≡ lexemes.now) ×
+        Adds (statement_pieces s) counts after ×
         AllByRecursion IsBounded (statement_pieces s)) }
     ensures within { IfOk result (λ after. AreWithinLimits counts → AreWithinLimits after) }
     ensures faultless { OnOk result (IsFaultless counts lexemes.now) }

@@ -7,12 +7,12 @@ ghost use Rattle.mg_terms.specs.Read.{IsRead};
 ghost use Rattle.mg_terms.specs.Cause.{IsFaultless};
 ghost use Rattle.mg_script.specs.Cause.{IsOneTooMany};
 ghost use Rattle.mg_terms.specs.Beginning.{BeginsBase};
-ghost use Rattle.mg_script.specs.Grammar.{Rest, sign_then, word_then, keyword_then, either, statement_rest};
-ghost use Rattle.mg_script.specs.Reader.{Start, Knows, Brings, BringsWord, Chooses, class_of, signs_then, kind_of, IsLeft, unread, IsNext, BeginsWord};
+ghost use Rattle.mg_script.specs.Grammar.{Rest, sign_then, keyword_then, either, statement_rest};
+ghost use Rattle.mg_script.specs.Reader.{Start, Knows, Brings, BringsWord, Chooses, class_of, signs_then, kind_of, IsLeft, unread, IsNext, IsPropertyNext, IsWordThen, BeginsWord};
 
 use crate::counted::{Counts, LETTER_LIMIT};
 use crate::fault::StatementFault;
-use crate::sign::{Expected, Role, Sign};
+use crate::sign::{Expected, NAME, Role, Sign};
 use mg_lex::{Cause, Keyword, Mark};
 use mg_terms::{Lexeme, WORD_LIMIT, WordFault, WordRead, read_word};
 
@@ -37,11 +37,22 @@ impl<'a> Reader<'a> {
 
     /// The next lexeme.
     pub(crate) fn next(&self) -> Option<Lexeme>
-        ensures some { IfSome result (λ x. (xs : ListOf Lexeme) × (drop self.now.place self.now.lexemes.now ≡ x ∷ xs)) }
+        ensures some { IfSome result (λ x. (xs : ListOf Lexeme) ×
+            (drop self.now.place self.now.lexemes.now ≡ x ∷ xs)) }
         ensures none { IfNone result (drop self.now.place self.now.lexemes.now ≡ []) }
         ensures within { IfSome result (λ x. self.now.place < length self.now.lexemes.now) }
     {
-        self.lexemes.get(self.place).copied()
+        self.at(self.place)
+    }
+
+    /// The lexeme at a place, if there is one.
+    fn at(&self, place: usize) -> Option<Lexeme>
+        ensures some { IfSome result (λ x. (xs : ListOf Lexeme) ×
+            (drop place self.now.lexemes.now ≡ x ∷ xs)) }
+        ensures none { IfNone result (drop place self.now.lexemes.now ≡ []) }
+        ensures within { IfSome result (λ x. place < length self.now.lexemes.now) }
+    {
+        self.lexemes.get(place).copied()
     }
 
     /// Whether the next lexeme may stand there.
@@ -66,6 +77,20 @@ impl<'a> Reader<'a> {
         }
     }
 
+    /// Whether a name and a property come next.
+    pub(crate) fn is_property_next(&self) -> bool
+        ensures next { IsTrue result ↔ IsPropertyNext (drop self.now.place self.now.lexemes.now) }
+        ensures within { IsTrue result → self.now.place + 2 ≤ length self.now.lexemes.now }
+    {
+        if !self.is_next(NAME.expected) {
+            return false;
+        }
+        match self.at(self.place + 1) {
+            Some(behind) => Expected::Property.has(behind),
+            None => false,
+        }
+    }
+
     /// A fault at the next lexeme.
     pub(crate) fn fault(&self, cause: Cause) -> StatementFault
         ensures { result ≡ record { place = self.now.place; cause = cause } }
@@ -78,7 +103,8 @@ impl<'a> Reader<'a> {
 
     /// Takes the next lexeme, which must be as the sign says.
     pub(crate) fn sign(&mut self, sign: Sign) -> Result<(), StatementFault>
-        ensures brings { (s : Start) (r : Rest) → Knows s (sign_then sign.counted (class_of sign.expected) r) self.old →
+        ensures brings { (s : Start) (r : Rest) →
+            Knows s (sign_then sign.counted (class_of sign.expected) r) self.old →
             Brings s r self.new result }
         ensures forward { OnOk result (unread self.new ≤ unread self.old) }
     {
@@ -95,7 +121,8 @@ impl<'a> Reader<'a> {
 
     /// Takes lexemes, one for each sign.
     pub(crate) fn signs(&mut self, signs: &[Sign]) -> Result<(), StatementFault>
-        ensures brings { (s : Start) (r : Rest) → Knows s (signs_then signs.now r) self.old → Brings s r self.new result }
+        ensures brings { (s : Start) (r : Rest) → Knows s (signs_then signs.now r) self.old →
+            Brings s r self.new result }
         ensures forward { OnOk result (unread self.new ≤ unread self.old) }
     {
         for sign in signs {
@@ -106,7 +133,8 @@ impl<'a> Reader<'a> {
 
     /// Takes the next lexeme if it may stand there.
     pub(crate) fn takes(&mut self, expected: Expected) -> bool
-        ensures chooses { (s : Start) (a b : Rest) → Knows s (either (sign_then None (class_of expected) a) b) self.old →
+        ensures chooses { (s : Start) (a b : Rest) →
+            Knows s (either (sign_then None (class_of expected) a) b) self.old →
             Chooses s a b self.new result }
         ensures forward { IsTrue result → unread self.new < unread self.old }
         ensures kept { unread self.new ≤ unread self.old }
@@ -120,7 +148,8 @@ impl<'a> Reader<'a> {
 
     /// Takes the next lexeme if it is this keyword.
     pub(crate) fn takes_keyword(&mut self, keyword: Keyword) -> bool
-        ensures chooses { (s : Start) (a b : Rest) → Knows s (either (keyword_then keyword a) b) self.old → Chooses s a b self.new result }
+        ensures chooses { (s : Start) (a b : Rest) →
+            Knows s (either (keyword_then keyword a) b) self.old → Chooses s a b self.new result }
         ensures forward { IsTrue result → unread self.new < unread self.old }
     {
         self.takes(Expected::This(Lexeme::Keyword(keyword)))
@@ -128,8 +157,10 @@ impl<'a> Reader<'a> {
 
     /// Takes a word.
     pub(crate) fn word(&mut self, role: Role) -> Result<WordRead, StatementFault>
-        ensures brings { (s : Start) (left : OptionOf Word) (f : Word → Rest) → IsLeft role left →
-            Knows s (word_then (kind_of role) left f) self.old → BringsWord s f self.new result }
+        ensures brings { (s : Start) (left : OptionOf Word) (f : Word → Rest) (r : Rest) →
+            IsLeft role left →
+            IsWordThen (drop self.old.place self.old.lexemes.now) (kind_of role) left f r →
+            Knows s r self.old → BringsWord s f self.new result }
         ensures forward { OnOk result (unread self.new ≤ unread self.old) }
     {
         if !self.begins_word() {
@@ -163,8 +194,10 @@ impl<'a> Reader<'a> {
         requires some { 1 ≤ word.count }
         requires within { self.old.place + word.count ≤ length self.old.lexemes.now }
         requires room { ¬ IsOneTooMany self.old.counts [] (kind_of role) }
-        ensures brings { (s : Start) (left : OptionOf Word) (f : Word → Rest) → IsLeft role left →
-            Knows s (word_then (kind_of role) left f) self.old → BringsWord s f self.new result }
+        ensures brings { (s : Start) (left : OptionOf Word) (f : Word → Rest) (r : Rest) →
+            IsLeft role left →
+            IsWordThen (drop self.old.place self.old.lexemes.now) (kind_of role) left f r →
+            Knows s r self.old → BringsWord s f self.new result }
         ensures forward { OnOk result (unread self.new ≤ unread self.old) }
     {
         let last = self.place + word.count - 1;

@@ -34,6 +34,7 @@ fn laws_are_called(rt: HostRuntime) {
     one_statement();
     one_place();
     a_script_or_a_refusal();
+    the_limits();
     assert!(rt; Property::Trivial != Property::Onto);
     assert!(rt; Printed::Facts != Printed::Log);
 }
@@ -167,6 +168,65 @@ fn words_are_counted(rt: HostRuntime) {
         cause: Cause::TooMany,
     };
     assert!(rt; read_statement(&word, full) == Err(fault));
+}
+
+/// Whether the lexemes are a statement where so much has been counted before.
+fn is_read_behind(counts: Counts, lexemes: &[Lexeme]) -> bool {
+    read_statement(lexemes, counts).is_ok()
+}
+
+/// So many words, questions, subgroups and maps.
+fn declared(words: u32, questions: u32, subgroups: u32, maps: u32) -> Counts {
+    Counts {
+        words,
+        questions,
+        subgroups,
+        maps,
+        ..NOTHING
+    }
+}
+
+#[test]
+fn at_most_1_024_words_are_declared(rt: HostRuntime) {
+    let word = [keyword(Keyword::Word), NAME, IN, NAME, EQUALS, NAME];
+    assert!(rt; is_read_behind(declared(1_023, 1_024, 256, 256), &word));
+    assert!(rt; !is_read_behind(declared(1_024, 0, 0, 0), &word));
+}
+
+#[test]
+fn at_most_1_024_questions_are_asked(rt: HostRuntime) {
+    let question = [ASK, NAME, COLON, NAME, IN, NAME];
+    assert!(rt; is_read_behind(declared(1_024, 1_023, 256, 256), &question));
+    assert!(rt; !is_read_behind(declared(0, 1_024, 0, 0), &question));
+}
+
+#[test]
+fn at_most_256_subgroups_are_declared(rt: HostRuntime) {
+    let subgroup = keyword(Keyword::Subgroup);
+    let of = keyword(Keyword::Of);
+    let declaration = [subgroup, NAME, of, NAME, EQUALS, LESS, GREATER];
+    assert!(rt; is_read_behind(declared(1_024, 1_024, 255, 256), &declaration));
+    assert!(rt; !is_read_behind(declared(0, 0, 256, 0), &declaration));
+}
+
+#[test]
+fn at_most_256_maps_are_declared(rt: HostRuntime) {
+    let arrow = Lexeme::Mark(Mark::Arrow);
+    let open = Lexeme::Mark(Mark::OpenSquare);
+    let close = Lexeme::Mark(Mark::CloseSquare);
+    let map = [
+        keyword(Keyword::Map),
+        NAME,
+        COLON,
+        NAME,
+        arrow,
+        NAME,
+        EQUALS,
+        open,
+        close,
+    ];
+    assert!(rt; is_read_behind(declared(1_024, 1_024, 256, 255), &map));
+    assert!(rt; !is_read_behind(declared(0, 0, 0, 256), &map));
 }
 
 const GROUP: Lexeme = Lexeme::Keyword(Keyword::Group);
@@ -436,6 +496,35 @@ fn groups_have_a_limit(rt: HostRuntime) -> Result<(), Fail> {
     assert!(rt; is_script(alloc, most.as_slice(), 64));
     let more = repeated(alloc, b"", GROUP_LINE, 65)?;
     assert!(rt; refused_at(alloc, more.as_slice(), 65, 7, Cause::TooMany));
+    Ok(())
+}
+
+/// A group, a hundred words of 10,000 letters, and then the line.
+fn behind_all_letters(alloc: Global, line: &[u8]) -> Result<Text, NoMemory> {
+    let mut text = repeated(alloc, GROUP_LINE, b"word w in G = a^10000\n", 100)?;
+    for byte in line {
+        text.push(*byte)?;
+    }
+    Ok(text)
+}
+
+#[test]
+fn a_name_counts_no_letter(rt: HostRuntime) -> Result<(), Fail> {
+    let alloc = rt.alloc();
+    let about_a_name = behind_all_letters(alloc, b"ask q : G trivial")?;
+    assert!(rt; is_script(alloc, about_a_name.as_slice(), 102));
+    let without_letters = behind_all_letters(alloc, b"ask q : 1 = 1 in G")?;
+    assert!(rt; is_script(alloc, without_letters.as_slice(), 102));
+    Ok(())
+}
+
+#[test]
+fn all_words_have_at_most_1_000_000_letters(rt: HostRuntime) -> Result<(), Fail> {
+    let alloc = rt.alloc();
+    let with_a_power = behind_all_letters(alloc, b"ask q : a^1 = 1 in G")?;
+    assert!(rt; refused_at(alloc, with_a_power.as_slice(), 102, 11, Cause::TooMany));
+    let with_a_letter = behind_all_letters(alloc, b"ask q : a = 1 in G")?;
+    assert!(rt; refused_at(alloc, with_a_letter.as_slice(), 102, 9, Cause::TooMany));
     Ok(())
 }
 

@@ -45,6 +45,10 @@ InRow (plain search) = IsSearched search
 abbrev pub HasPublished : Search → List Fact → Type 0
 HasPublished (plain search) records = PlainPublished search records
 
+-- a search that tests numbered objects, one for each unit
+abbrev pub TestsNumbered : Search → Type 0
+TestsNumbered (plain search) = Unit {0}
+
 -- what searches of all procedures mean to a run
 abbrev pub searching : Searching Fact Inquiry Group Search
 searching = record {

@@ -1,10 +1,11 @@
-pub mod Machine
-pub mod Adding
-pub mod Unique
+mod Machine
+mod Adding
+mod Unique
 pub mod Beginnings
-pub mod Runs
-pub mod Reaches
+mod Runs
+mod Reaches
 pub mod Faults
-pub mod Taking
-pub mod Reached
-pub mod Tokens
+mod Taking
+mod Reached
+mod Tokens
+pub mod Total

@@ -142,7 +142,7 @@ square_taken fs w old new left letters has is sum short closes within =
     subst (λ gs. Takes (square_step gs w) new) (sym h.3)
     (square_closed h.2 h.0 h.1 w old new letters fit closes (sum ∙ h.4) short (subst (λ gs. AreWithin (whole_known gs w)) h.3 within))
 
-square_breaks : (fs : List Frame) (before : Before) (u w : Word) (place : ℕ) → length (state_lexemes (state (frame before (in_right u) ∷ fs) (whole w))) ≡ place → WORD_LIMIT < base_letters (commutator u w) →
+pub square_breaks : (fs : List Frame) (before : Before) (u w : Word) (place : ℕ) → length (state_lexemes (state (frame before (in_right u) ∷ fs) (whole w))) ≡ place → WORD_LIMIT < base_letters (commutator u w) →
     TakesLong (square_step (frame before (in_right u) ∷ fs) w) place
 square_breaks fs before u w place here long =
     let letters = base_letters (commutator u w) in
@@ -166,7 +166,7 @@ square_long fs w old left place has is long here =
     (square_breaks h.2 h.0 h.1 w place (subst (λ gs. length (state_lexemes (state gs (whole w))) ≡ place) h.3 here) (subst (λ n. WORD_LIMIT < n) h.4 long))
 
 -- the number of an exponent
-joined_letters : (before : Before) (f : Factor) → word_letters (joined before f) ≡ before_letters before + factor_letters f
+pub joined_letters : (before : Before) (f : Factor) → word_letters (joined before f) ≡ before_letters before + factor_letters f
 joined_letters none f = omega arith
 joined_letters (after w star) f = refl
 
@@ -196,7 +196,7 @@ number_taken fs before b negative n base old new has same short grown within =
           (all_append IsWithin (state_events (state fs (behind before b))) (factor_end (front_place fs before) f ∷ word_end (length (frames_lexemes fs)) w ∷ []) within (factor_short, (whole_short, tt)));
     }
 
-number_long : (fs : List Frame) (before : Before) (b : Base) (negative : Bool) (n place : ℕ) → number_count fs before b negative ≡ place → WORD_LIMIT < word_letters (joined before (power b negative n)) →
+pub number_long : (fs : List Frame) (before : Before) (b : Base) (negative : Bool) (n place : ℕ) → number_count fs before b negative ≡ place → WORD_LIMIT < word_letters (joined before (power b negative n)) →
     TakesLong (Some (state fs (whole (joined before (power b negative n))))) place
 number_long fs before b negative n place here long =
     let f : Factor = power b negative n in
@@ -364,7 +364,7 @@ is_behind (state fs (minus before b)) old base keeps at_base = absurd (let here 
 is_behind (state fs (caret before b)) old base keeps at_base = absurd (let here = ap (λ (r : Reader). r.position) keeps ∙ at_base in cc)
 is_behind (state fs (whole w)) old base keeps at_base = absurd (let here = ap (λ (r : Reader). r.position) keeps ∙ at_base in cc)
 
-base_some : (b : Base) → 1 ≤ length (base_lexemes b)
+pub base_some : (b : Base) → 1 ≤ length (base_lexemes b)
 base_some name = omega arith
 base_some one = omega arith
 base_some (round w) = omega arith

@@ -6,6 +6,7 @@ ghost use Rattle.mg_terms.specs.Beginning.{GoesOn, EndsBefore, CanFollow};
 ghost use Rattle.mg_terms.specs.Cause.{IsReach, IsFirstCause};
 
 use crate::lexeme::Lexeme;
+use crate::limits::{DEPTH_LIMIT, WORD_LIMIT};
 use mg_lex::Cause;
 
 /// The grammar is unambiguous: lexemes are one word only.
@@ -30,4 +31,10 @@ pub fn one_place()
     ensures reach { (xs : List Lexeme) (m n : ℕ) → IsReach xs m → IsReach xs n → m ≡ n }
     ensures first { (xs : List Lexeme) (p q : ℕ) (c d : Cause) →
         IsFirstCause xs p c → IsFirstCause xs q d → (p ≡ q) × (c ≡ d) }
+{}
+
+/// The limits of words by their values.
+pub fn the_limits()
+    ensures letters { WORD_LIMIT ≡ 10000 }
+    ensures depth { DEPTH_LIMIT ≡ 256 }
 {}

@@ -44,7 +44,8 @@ impl Lexeme {
 pub fn lexeme_of(line: &[u8], token: Token) -> Lexeme
     requires inside { token.start + token.length ≤ length line.now }
     requires kind { IsToken token.kind (token_bytes line.now token) }
-    requires number { token.kind ≡ TokenKind.Number → number_value (token_bytes line.now token) ≤ NUMBER_LIMIT }
+    requires number { token.kind ≡ TokenKind.Number →
+        number_value (token_bytes line.now token) ≤ NUMBER_LIMIT }
     ensures { IsLexemeOf line.now token result }
 {
     let bytes = token.bytes(line);

@@ -12,7 +12,7 @@ mod read;
 mod reader;
 
 pub use fault::WordFault;
-pub use laws::{one_end, one_place, one_word, what_follows};
+pub use laws::{one_end, one_place, one_word, the_limits, what_follows};
 pub use lexeme::{Lexeme, Lexemes, lexeme_of, lexemes_of};
 pub use limits::{DEPTH_LIMIT, WORD_LIMIT};
 pub use read::{WordRead, read_word};

@@ -59,7 +59,8 @@ impl Reader {
           position = Position.Front;
         }) }
         ensures fault { IfErr result (λ f.
-            (f.place ≡ place) × (f.cause ≡ Cause.TooMany) × (DEPTH_LIMIT ≤ length self.old.around)) }
+            (f.place ≡ place) × (f.cause ≡ Cause.TooMany) ×
+            (DEPTH_LIMIT ≤ length self.old.around)) }
     {
         if self.around.depth() >= DEPTH_LIMIT {
             return Err(WordFault {
@@ -91,7 +92,8 @@ impl Reader {
     fn begin(&mut self, lexeme: Lexeme, place: usize) -> Result<bool, WordFault>
         ensures { (fs : ListOf Frame) (before : Before) → Has self.old fs (before_letters before) →
             IsReady (state fs (front before)) place →
-            Brings (state_events (state fs (front before))) (begin_step fs before lexeme) place self.old self.new result }
+            Brings (state_events (state fs (front before)))
+            (begin_step fs before lexeme) place self.old self.new result }
     {
         match lexeme {
             Lexeme::Name => {
@@ -111,7 +113,8 @@ impl Reader {
     /// Takes a closing parenthesis behind a whole word.
     fn close_round(&mut self) -> bool
         ensures { (fs : ListOf Frame) (w : Word) → Has self.old fs (word_letters w) →
-            AreWithin (state_events (state fs (whole w))) → Took (round_step fs w) self.old self.new result }
+            AreWithin (state_events (state fs (whole w))) →
+            Took (round_step fs w) self.old self.new result }
     {
         match self.word.bracket {
             Bracket::Round => {
@@ -125,7 +128,8 @@ impl Reader {
     /// Takes a comma behind a whole word.
     fn comma(&mut self) -> bool
         ensures { (fs : ListOf Frame) (w : Word) → Has self.old fs (word_letters w) →
-            AreWithin (state_events (state fs (whole w))) → Took (comma_step fs w) self.old self.new result }
+            AreWithin (state_events (state fs (whole w))) →
+            Took (comma_step fs w) self.old self.new result }
     {
         match self.word.bracket {
             Bracket::Left => {
@@ -144,7 +148,8 @@ impl Reader {
     fn close_square(&mut self, place: usize) -> Result<bool, WordFault>
         ensures { (fs : ListOf Frame) (w : Word) → Has self.old fs (word_letters w) →
             IsReady (state fs (whole w)) place →
-            Brings (state_events (state fs (whole w))) (square_step fs w) place self.old self.new result }
+            Brings (state_events (state fs (whole w)))
+            (square_step fs w) place self.old self.new result }
     {
         match self.word.bracket {
             Bracket::Right(left) => match within(commutator(left, self.word.letters)) {
@@ -165,7 +170,8 @@ impl Reader {
     fn go_on(&mut self, lexeme: Lexeme, place: usize) -> Result<bool, WordFault>
         ensures { (fs : ListOf Frame) (w : Word) → Has self.old fs (word_letters w) →
             IsReady (state fs (whole w)) place →
-            Brings (state_events (state fs (whole w))) (whole_step fs w lexeme) place self.old self.new result }
+            Brings (state_events (state fs (whole w)))
+            (whole_step fs w lexeme) place self.old self.new result }
     {
         if lexeme.is(Mark::Star) {
             self.position = Position::Front;
@@ -209,8 +215,10 @@ impl Reader {
     fn exponent(&mut self, base: u32, lexeme: Lexeme, place: usize) -> Result<bool, WordFault>
         ensures { (fs : ListOf Frame) (before : Before) (b : Base) (negative : Bool) →
             Has self.old fs (before_letters before) → base ≡ base_letters b →
-            number_count fs before b negative ≡ place → AreWithin (state_events (state fs (behind before b))) →
-            Brings (state_events (state fs (behind before b))) (number_step fs before b negative lexeme)
+            number_count fs before b negative ≡ place →
+            AreWithin (state_events (state fs (behind before b))) →
+            Brings (state_events (state fs (behind before b)))
+            (number_step fs before b negative lexeme)
             place self.old self.new result }
     {
         match lexeme {
@@ -243,7 +251,8 @@ impl Reader {
         ensures { (fs : ListOf Frame) (before : Before) (b : Base) →
             Has self.old fs (before_letters before) → base ≡ base_letters b →
             IsReady (state fs (caret before b)) place →
-            Brings (state_events (state fs (caret before b))) (step (state fs (caret before b)) lexeme)
+            Brings (state_events (state fs (caret before b)))
+            (step (state fs (caret before b)) lexeme)
             place self.old self.new result }
     {
         if lexeme.is(Mark::Minus) {
@@ -256,7 +265,8 @@ impl Reader {
     /// Takes the lexeme at the place if a word goes on with it.
     pub(crate) fn step(&mut self, lexeme: Lexeme, place: usize) -> Result<bool, WordFault>
         requires { (base : ℕ) → self.old.position ≡ Position.Base base → 1 ≤ place }
-        ensures { (s : State) → kept s ≡ self.old → IsReady s place → Steps s lexeme place self.new result }
+        ensures { (s : State) → kept s ≡ self.old → IsReady s place →
+            Steps s lexeme place self.new result }
     {
         match self.position {
             Position::Front => self.begin(lexeme, place),
@@ -283,7 +293,8 @@ impl Reader {
 
     /// How many letters the word has that ends before the place, behind a whole factor.
     fn whole(&self, place: usize) -> Result<u32, WordFault>
-        ensures { (s : State) → kept s ≡ self.now → closed_state s ≡ s → AreWithin (state_events s) → Ends s place result }
+        ensures { (s : State) → kept s ≡ self.now → closed_state s ≡ s →
+            AreWithin (state_events s) → Ends s place result }
     {
         let unexpected = WordFault {
             place,

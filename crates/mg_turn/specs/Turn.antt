@@ -1,7 +1,10 @@
 -- Turns of searches, over any kind of search and of record.
-use Rattle.std.specs.Prelude.{◌≡◌, ℕ, ◌+◌, ◌≤◌, Bool, true, false, Option, Some, List, [], ◌∷◌, length, IsSome}
+use Rattle.std.specs.Prelude.{◌≡◌, ℕ, ◌+◌, ◌≤◌, ◌⊎◌, Bool, true, false, Option, Some, List, [], ◌∷◌, length, IsSome}
 use Rattle.std.specs.List.{AllByRecursion}
 use Rattle.mg_core.specs.declared.entries.Facts.{Facts}
+use Rattle.mg_turn.specs.declared.bounds.TheConstants.{MOST_RULES, MOST_SIDE_LETTERS, MOST_LETTERS, MOST_ENTRIES, MOST_MOVES, MOST_SYMBOLS}
+use Rattle.mg_turn.specs.declared.outcome.Limit.{Limit}
+use Rattle.mg_turn.specs.declared.outcome.Limit.TheVariants.{Rules, Letters, Entries, Moves, Symbols}
 use Rattle.mg_turn.specs.declared.outcome.Outcome.{Outcome}
 use Rattle.mg_turn.specs.declared.outcome.TurnEnd.{TurnEnd}
 use Rattle.mg_turn.specs.declared.outcome.TurnEnd.TheVariants.{More, Found, Closed, Idle, Stopped, Full}
@@ -58,6 +61,14 @@ abbrev pub Settles : {R K G : Type 0} → Recording R K G → K → List R → T
 Settles recording key [] = ⊥
 Settles recording key (first ∷ rest) = (recording.settles first ≡ Some key) × (length rest ≤ 1) × AreModels recording rest
 
+-- a number that searches keep the quantity within
+abbrev pub IsLimitOf : Limit → ℕ → Type 0
+IsLimitOf Rules count = count ≡ MOST_RULES
+IsLimitOf Letters count = (count ≡ MOST_SIDE_LETTERS) ⊎ (count ≡ MOST_LETTERS)
+IsLimitOf Entries count = count ≡ MOST_ENTRIES
+IsLimitOf Moves count = count ≡ MOST_MOVES
+IsLimitOf Symbols count = count ≡ MOST_SYMBOLS
+
 -- what an end says of the search, of the units spent and of the models handed in
 abbrev pub EndFits : {R K G S : Type 0} → Recording R K G → Searching R K G S → S → ℕ → Facts R → ℕ → TurnEnd R → Type 0
 EndFits recording searching search units facts spent More = (1 ≤ spent) × (searching.wants search units ≡ 0 → spent ≡ units)
@@ -65,7 +76,7 @@ EndFits recording searching search units facts spent (Found records) = Settles r
 EndFits recording searching search units facts spent (Closed records) = (length records ≤ 1) × AreModels recording records
 EndFits recording searching search units facts spent Idle = (spent ≡ 0) × (1 ≤ searching.wants search units) × (facts.records ≡ [])
 EndFits recording searching search units facts spent (Stopped seen) = recording.valid seen.value × (recording.settles seen.value ≡ Some (searching.key search)) × (1 ≤ searching.wants search units → spent ≡ 0)
-EndFits recording searching search units facts spent (Full what count) = Unit {0}
+EndFits recording searching search units facts spent (Full what count) = IsLimitOf what count
 
 -- the models handed in are at most as many as the search wants, each a model of its group
 pub record AreWanted {R K G S : Type 0} (recording : Recording R K G) (searching : Searching R K G S) (search : S) (units : ℕ) (facts : Facts R) : Type 0 where

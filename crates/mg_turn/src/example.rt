@@ -168,5 +168,7 @@ impl Searcher<Mark> for Finder {
         })
     }
 
-    ghost sound = { sound_as _ (third _ _) (λ s. record { key = s.key; group = s.group; spent = s.spent }) (third_is_sound _ _ (λ key. (tt, refl))) };
+    ghost sound = { sound_as _ (third _ _)
+        (λ s. record { key = s.key; group = s.group; spent = s.spent })
+        (third_is_sound _ _ (λ key. (tt, refl))) };
 }

@@ -33,7 +33,7 @@ pub enum TurnEnd<R> {
     Full {
         /// The quantity.
         what: Limit,
-        /// Its limit.
+        /// Its limit, one of those that this crate names.
         count: u64,
     },
 }

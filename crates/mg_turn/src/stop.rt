@@ -13,7 +13,8 @@ pub trait Stop<R: Record> {
 
     /// The record that it knows after this call.
     fn look(&mut self) -> Option<&R>
-        ensures* { sem 𝓛 (follows_so Self.row Self.row self.entry.ghost_name none (λ _ _. ⊤) (λ s. known s ≡ option_copied result)) };
+        ensures* { sem 𝓛 (follows_so Self.row Self.row self.entry.ghost_name none (λ _ _. ⊤)
+            (λ s. known s ≡ option_copied result)) };
 }
 
 /// A copy of the record that a stop knows, where it settles the key; None exactly where it knows none that does.
@@ -23,8 +24,10 @@ pub fn known_verdict<R: Record, T: Stop<R>>(
     stop: &mut T,
 ) -> Result<Option<Box<R>>, NoMemory>
     ensures some { IfOk result (λ found. IfSome found (λ copy.
-        (T.known stop.new ≡ Some copy.value) × R.valid copy.value × (R.settled copy.value ≡ Some key.now))) }
-    ensures none { IfOk result (λ found. IfNone found ((known : R) → T.known stop.new ≡ Some known → R.settled known ≢ Some key.now)) }
+        (T.known stop.new ≡ Some copy.value) × R.valid copy.value ×
+        (R.settled copy.value ≡ Some key.now))) }
+    ensures none { IfOk result (λ found. IfNone found ((known : R) →
+        T.known stop.new ≡ Some known → R.settled known ≢ Some key.now)) }
     ensures err { OnErr result (IsSome (T.known stop.new)) }
 {
     let Some(known) = stop.look() else {

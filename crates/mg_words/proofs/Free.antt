@@ -11,22 +11,8 @@ use Rattle.std.proofs.lemmas.List.{append-nil, same_from_push, length-append, le
 use Rattle.mg_words.specs.Letter.{IsLetterOf}
 use Rattle.mg_words.specs.Word.{inv, IsOver, IsReduced}
 use Rattle.mg_words.specs.Chain.{IsPiece, a_pair, a_relator, an_inverse, Inserts, Step, Leads, FreelyEqual}
-use Rattle.mg_words.specs.Reduction.{PushesReduced}
+use Rattle.mg_words.specs.Reduction.{IsFormOf, PushesReduced, cancel, onto, free_form}
 use Rattle.mg_words.proofs.Chains.{inv-append, inv-cons, inv-inv, IsOver-append, IsOver-left, none_contained, Same-refl, Same-equal, Same-trans, Same-sym, Same-before, Same-pair}
-
--- a word times one letter on the left
-abbrev pub cancel : ℤ → List ℤ → List ℤ
-cancel x [] = x ∷ []
-cancel x (y ∷ w) = cond (int_eq y (neg_ℤ x)) w (x ∷ (y ∷ w))
-
--- a reduced word times a word on the left
-abbrev pub onto : List ℤ → List ℤ → List ℤ
-onto [] w = w
-onto (x ∷ u) w = cancel x (onto u w)
-
--- the normal form
-abbrev pub free_form : List ℤ → List ℤ
-free_form w = onto w []
 
 -- two letters are one or not
 decided : (r : Bool) (P : Type 0) → Decides r P → P ⊎ (P → ⊥)
@@ -204,6 +190,17 @@ freely_from_form m u v h k e =
 -- freely equal reduced words are one
 pub reduced_is_unique : (m : ℕ) (u v : List ℤ) → IsReduced u → IsReduced v → FreelyEqual m u v → u ≡ v
 reduced_is_unique m u v h k e = sym (free_form-reduced u h) ∙ (same_form m u v e ∙ free_form-reduced v k)
+
+-- the normal form is the freely reduced form, and no other reduced word is freely equal
+pub IsFormOf-free_form : (w : List ℤ) → IsFormOf w (free_form w)
+IsFormOf-free_form w = record {
+  reduced = IsReduced-free_form w;
+  over = λ m. IsOver-free_form m w;
+  equal = λ m. free_form-freely m w;
+}
+
+pub free_form_is_the_one : (m : ℕ) (w v : List ℤ) → IsReduced v → FreelyEqual m w v → v ≡ free_form w
+free_form_is_the_one m w v h e = sym (free_form-reduced v h) ∙ sym (same_form m w v e)
 
 -- inverses
 pub IsReduced-inv : (w : List ℤ) → IsReduced w → IsReduced (inv w)

@@ -2,6 +2,7 @@
 use Rattle.std.specs.Prelude.{◌≡◌, ℕ, ℤ, pos, negsuc, ◌-◌, ◌+◌, ◌≤◌, Bool, true, false, nat_abs, refl}
 use Rattle.std.proofs.Math.Nat.{sub-add_cancel}
 use Rattle.mg_words.specs.declared.letter.Letter.TheInside.{Inside}
+use Rattle.mg_words.specs.declared.limits.TheConstants.{MOST_PLACE}
 
 abbrev pub number_of : ℕ → Bool → ℤ
 number_of place false = pos place
@@ -19,7 +20,7 @@ pub record IsLetterOf (m : ℕ) (x : ℤ) : Type 0 where
 -- the place of a generator
 pub record IsPlace (place : ℕ) : Type 0 where
   pub least : 1 ≤ place
-  pub most : place ≤ 64
+  pub most : place ≤ MOST_PLACE
 
 fields_back_of : (place : ℕ) (inverse : Bool) → 1 ≤ place → fields_of (number_of place inverse) ≡ record { generator = place; inverse = inverse }
 fields_back_of place false h = refl

@@ -3,13 +3,11 @@ ghost use Rattle.std.specs.Prelude.{◌≡◌, ℕ, ◌+◌, ◌*◌, ◌^◌, �
 ghost use Rattle.mg_words.specs.Word.{inv, times, power_of, commutator_of};
 
 use crate::letter::Letter;
+use crate::limits::{MOST_EXPONENT, MOST_POWER_LETTERS};
 use crate::word::Word;
 use mg_lists::NoMemory;
 use std::alloc::Global;
 use thiserror::Error;
-
-/// How many letters a power may have, written out.
-pub const MOST_POWER_LETTERS: usize = 10_000;
 
 /// Why there is no power.
 #[derive(Clone, Copy, Debug, PartialEq, Eq, Error)]
@@ -75,7 +73,7 @@ pub fn commutator(alloc: Global, u: &Word, v: &Word) -> Result<Word, NoMemory>
 /// The word written `k` times, or its inverse `-k` times. It is refused where that would have more
 /// than [`MOST_POWER_LETTERS`] letters.
 pub fn power(alloc: Global, w: &Word, k: i64) -> Result<Word, WordFault>
-    requires { nat_abs k ≤ 2 ^ 62 }
+    requires { nat_abs k ≤ MOST_EXPONENT }
     ensures power { IfOk result (λ v. v.letters ≡ power_of k w.now.letters) }
     ensures fits { OnOk result (length w.now.letters * nat_abs k ≤ MOST_POWER_LETTERS) }
     ensures too_long { (n : ℕ) → result ≡ Err (WordFault.TooLong n) →

@@ -2,7 +2,7 @@
 ghost use Rattle.std.specs.Prelude.{◌≡◌, ℕ, ◌+◌, ◌≤◌, ◌↔◌, List, [], ◌∷◌, ◌++◌, IfOk, OnOk, IsTrue, length, neg_ℤ, ℤ};
 ghost use Rattle.mg_words.specs.Word.{IsOver, IsReduced};
 ghost use Rattle.mg_words.specs.Chain.{FreelyEqual};
-ghost use Rattle.mg_words.specs.Reduction.{PushesReduced};
+ghost use Rattle.mg_words.specs.Reduction.{IsFormOf, PushesReduced, free_form};
 
 use crate::letter::Letter;
 use crate::word::Word;
@@ -27,7 +27,9 @@ pub fn push_reduced(w: &mut Word, x: Letter)
 
 /// The freely reduced form of a word.
 pub fn reduce(alloc: Global, w: &Word) -> Result<Word, NoMemory>
-    ensures equal { IfOk result (λ v. (m : ℕ) → IsOver m w.now.letters → FreelyEqual m w.now.letters v.letters) }
+    ensures form { IfOk result (λ v. v.letters ≡ free_form w.now.letters) }
+    ensures equal { IfOk result (λ v. (m : ℕ) → IsOver m w.now.letters →
+        FreelyEqual m w.now.letters v.letters) }
     ensures over { IfOk result (λ v. (m : ℕ) → IsOver m w.now.letters → IsOver m v.letters) }
     ensures reduced { IfOk result (λ v. IsReduced v.letters) }
 {
@@ -83,4 +85,11 @@ pub fn is_over(generators: u32, w: &Word) -> bool
 /// Two reduced words that are freely equal are the same word, so each word has one reduced form.
 pub fn reduced_forms_are_unique()
     ensures { (m : ℕ) (u v : List ℤ) → IsReduced u → IsReduced v → FreelyEqual m u v → u ≡ v }
+{}
+
+/// The form that `free_form` gives of a word is reduced and freely equal to it, and is the one reduced
+/// word that is.
+pub fn free_form_is_the_reduced_form()
+    ensures form { (w : List ℤ) → IsFormOf w (free_form w) }
+    ensures one { (m : ℕ) (w v : List ℤ) → IsReduced v → FreelyEqual m w v → v ≡ free_form w }
 {}

@@ -1,10 +1,14 @@
 //! Worked values, and each public call once.
+ghost use Rattle.std.specs.Prelude.{◌≤◌, nat_abs};
+
 use crate::letter::Letter;
+use crate::limits::MOST_EXPONENT;
 use crate::operations::{WordFault, commutator, concat, inverse, power};
 use crate::procedure::Procedure;
 use crate::reduction::{freely_equal, is_over, is_reduced, push_reduced, reduce};
 use crate::word::Word;
 use crate::words::Words;
+use std::alloc::Global;
 use std::cmp::Ordering;
 use std::test::Fail;
 
@@ -91,5 +95,23 @@ fn lists_of_words_are_compared(rt: HostRuntime) -> Result<(), Fail> {
     assert_eq!(rt; copy.as_slice().len(), 1);
     assert!(rt; A < A_BACK && A_BACK < B && A.undoes(A_BACK));
     assert!(rt; Procedure::Derive < Procedure::Recall);
+    Ok(())
+}
+
+/// How many letters a power of one letter has; None where there is none.
+fn length_of_power(alloc: Global, exponent: i64) -> Option<usize>
+    requires { nat_abs exponent ≤ MOST_EXPONENT }
+{
+    let a = Word::from_letters(alloc, &[A]).ok()?;
+    let written = power(alloc, &a, exponent).ok()?;
+    Some(written.letters().len())
+}
+
+#[test]
+fn a_power_has_at_most_10_000_letters(rt: HostRuntime) -> Result<(), Fail> {
+    let alloc = rt.alloc();
+    assert_eq!(rt; length_of_power(alloc, 9_999), Some(9_999));
+    assert_eq!(rt; length_of_power(alloc, -10_000), Some(10_000));
+    assert_eq!(rt; length_of_power(alloc, 10_001), None);
     Ok(())
 }

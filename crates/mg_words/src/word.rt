@@ -143,7 +143,8 @@ impl Eq for Word {
 impl PartialOrd for Word {
     ghost partial_cmp = { as_partial_cmp word_cmp };
 
-    ghost laws = { partial_order_from_own_ties (Prim.search (word_total, comparing, rules)) (Prim.search (comparing, rules)) };
+    ghost laws = { partial_order_from_own_ties (Prim.search (word_total, comparing, rules))
+        (Prim.search (comparing, rules)) };
 
     fn partial_cmp(&self, other: &Word) -> Option<Ordering> {
         Some(self.cmp(other))

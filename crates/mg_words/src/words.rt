@@ -108,7 +108,8 @@ impl Eq for Words {
 impl PartialOrd for Words {
     ghost partial_cmp = { as_partial_cmp words_cmp };
 
-    ghost laws = { partial_order_from_own_ties (Prim.search (words_total, comparing, rules)) (Prim.search (comparing, rules)) };
+    ghost laws = { partial_order_from_own_ties (Prim.search (words_total, comparing, rules))
+        (Prim.search (comparing, rules)) };
 
     fn partial_cmp(&self, other: &Words) -> Option<Ordering> {
         Some(self.cmp(other))

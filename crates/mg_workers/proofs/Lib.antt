@@ -1,7 +1,7 @@
 pub mod Counts
 pub mod Events
-pub mod Inserts
+mod Inserts
 pub mod Legality
 pub mod Pairs
 pub mod Rounds
-pub mod Thirds
+mod Thirds

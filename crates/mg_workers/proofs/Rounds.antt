@@ -1,13 +1,13 @@
 -- Lemmas on one worker that goes round its searches.
 use Rattle.std.proofs.Common.{◌≡◌, ℕ, zero, suc, ◌+◌, ◌-◌, ◌*◌, ◌<◌, ◌≤◌, ◌^◌, ◌↔◌, ◌⊎◌, inl, inr, min, Bool, true, false, cond, not, ◌||◌, ◌&&◌, List, [], ◌∷◌, ◌++◌, Some, length, get_or, map, take, drop, set, reverse, refl, ap, sym, ◌∙◌, subst, arith, append-nil, append_assoc}
-use Rattle.std.specs.Prelude.{slice_get, Result, Ok, Err, IsTrue, IsSome, IsNone, IfSome, IfOk, OnOk, Option}
+use Rattle.std.specs.Prelude.{slice_get, Result, Ok, Err, IsTrue, IsSome, IsNone, IfSome, IfOk, OnOk, OnErr, Option}
 use Rattle.std.specs.List.{AllByRecursion}
 use Rattle.std.proofs.lemmas.List.{length-map, map-append, map-set, reverse-append}
 use Rattle.mg_core.specs.declared.entries.Entry.{Entry}
 use Rattle.mg_core.specs.declared.entries.Facts.{Facts}
 use Rattle.mg_core.specs.Book.{bare}
 use Rattle.mg_core.specs.Log.{facts_of, Settled, Handed}
-use Rattle.mg_core.specs.Streaks.{next_of}
+use Rattle.mg_core.specs.Streaks.{IsLastEmpty, next_of}
 use Rattle.mg_core.proofs.Logs.{facts_of-append}
 use Rattle.mg_turn.specs.declared.outcome.Outcome.{Outcome}
 use Rattle.mg_turn.specs.declared.outcome.TurnEnd.{TurnEnd}
@@ -19,7 +19,7 @@ use Rattle.mg_workers.specs.declared.held.End.{End}
 use Rattle.mg_workers.specs.declared.held.End.TheVariants as ends
 use Rattle.mg_workers.specs.Run.{Row, Running, Begins, Event, Runs, Finished, entry_of, row_after, end_after, leaves_at}
 use Rattle.mg_workers.specs.Rows.{EachPair}
-use Rattle.mg_workers.specs.Round.{even, row_of, entered, IsFit, GoesRound}
+use Rattle.mg_workers.specs.Round.{even, row_of, entered, ComesTo, IsFit, GoesRound}
 use Rattle.mg_workers.specs.Seats.{seat_of, row_at, seated, cells_of, turns_ahead, Follows, PutsDown, whole, after_whole}
 use Rattle.mg_workers.proofs.Pairs.{all_at, all_set, only}
 use Rattle.mg_workers.proofs.Counts.{event_uses, total, total-set, chances}
@@ -319,6 +319,18 @@ module _ {R K G S : Type 0} (recording : Recording R K G) (searching : Searching
       (subst (λ any. Goes before begin seats log any place_now) (sym some_is)
       (subst (λ at. Goes before begin seats log some at) (sym place_is) goes)))
 
+  -- a run that comes to a log, and one that goes on from there
+  pub comes_to : (first : List (Entry R)) (old : Running R S) (seats : List (Seat S)) (log new : List (Entry R)) → new ≡ log → Runs recording searching 1 even first old (seated seats log) → ComesTo recording searching first old new
+  comes_to first old seats log new same run = (map row_at seats, subst (λ entries. Runs recording searching 1 even first old (record { rows = map row_at seats; log = entries })) (sym same) run)
+
+  pub comes_then : (first : List (Entry R)) (old mid : Running R S) (log : List (Entry R)) → Runs recording searching 1 even first old mid → ComesTo recording searching first mid log → ComesTo recording searching first old log
+  comes_then first old mid log run h = (h.0, runs_then recording searching 1 even first old mid (record { rows = h.0; log = log }) run h.1)
+
+  -- where memory is wanting at the next turn of a round
+  pub goes_lost : (before : List (Seat S)) (begin : List (Entry R)) (seats : List (Seat S)) (log : List (Entry R)) (some : Bool) (place : ℕ) (new : List (Entry R)) → new ≡ log → Goes before begin seats log some place →
+      (first : List (Entry R)) → Begins first begin → ComesTo recording searching first (seated before begin) new
+  goes_lost before begin seats log some place new same goes first begins = comes_to first (seated before begin) seats log new same (goes.runs first begins)
+
   -- what a run of a search alone has come to: it leads from the start to here, and the search is fit
   pub record Alone (start : Seat S) (begin : List (Entry R)) (here : Seat S) (log : List (Entry R)) : Type 0 where
     pub runs : (first : List (Entry R)) → Begins first begin → Runs recording searching 1 even first (seated (start ∷ []) begin) (seated (here ∷ []) log)
@@ -350,6 +362,19 @@ module _ {R K G S : Type 0} (recording : Recording R K G) (searching : Searching
     fit = fit;
   }
 
+  -- where memory is wanting at the next turn, or in the run by which it goes on
+  pub alone_lost : (start : Seat S) (begin : List (Entry R)) (seat : Seat S) (log new : List (Entry R)) → new ≡ log → Alone start begin seat log →
+      (first : List (Entry R)) → Begins first begin → ComesTo recording searching first (seated (start ∷ []) begin) new
+  alone_lost start begin seat log new same alone first begins = comes_to first (seated (start ∷ []) begin) (seat ∷ []) log new same (alone.runs first begins)
+
+  pub alone_lost_later : (start : Seat S) (begin : List (Entry R)) (seat : Seat S) (log new : List (Entry R)) →
+      ((first : List (Entry R)) → Begins first log → ComesTo recording searching first (seated (seat ∷ []) log) new) → Alone start begin seat log →
+      (first : List (Entry R)) → Begins first begin → ComesTo recording searching first (seated (start ∷ []) begin) new
+  alone_lost_later start begin seat log new later alone first begins =
+      let run = alone.runs first begins in
+      let grown = runs_begins recording searching 1 even first (seated (start ∷ []) begin) (seated (seat ∷ []) log) run in
+      comes_then first (seated (start ∷ []) begin) (seated (seat ∷ []) log) new run (later first (begins_then first begin log begins grown))
+
   -- how far one worker has come with its searches
   pub record Went (searches : List (Held S)) (begin : List (Entry R)) (seats : List (Seat S)) (log : List (Entry R)) : Type 0 where
     pub runs : Runs recording searching 1 even begin (entered searches begin) (seated seats log)
@@ -377,6 +402,21 @@ module _ {R K G S : Type 0} (recording : Recording R K G) (searching : Searching
         cells = cells ∙ there.cells;
       })
 
+  -- where memory is wanting before the first turn
+  pub came_nowhere : (searches : List (Held S)) (log : List (Entry R)) → ComesTo recording searching log (entered searches log) log
+  came_nowhere searches log = (map (row_of false false) searches, ([], refl))
+
+  -- where it is wanting in a round, or behind the last one
+  pub went_lost : (searches : List (Held S)) (begin : List (Entry R)) (seats now : List (Seat S)) (log new : List (Entry R)) → Went searches begin seats log → now ≡ seats →
+      ((first : List (Entry R)) → Begins first log → ComesTo recording searching first (seated now log) new) → ComesTo recording searching begin (entered searches begin) new
+  went_lost searches begin seats now log new went same later =
+      let there = subst (λ members. Went searches begin members log) (sym same) went in
+      let grown = runs_begins recording searching 1 even begin (entered searches begin) (seated now log) there.runs in
+      comes_then begin (entered searches begin) (seated now log) new there.runs (later begin grown)
+
+  pub went_last : (searches : List (Held S)) (begin : List (Entry R)) (seats : List (Seat S)) (log new : List (Entry R)) → new ≡ log → Went searches begin seats log → ComesTo recording searching begin (entered searches begin) new
+  went_last searches begin seats log new same went = comes_to begin (entered searches begin) seats log new same went.runs
+
   pub went_out : (searches : List (Held S)) (begin : List (Entry R)) (seats : List (Seat S)) (log : List (Entry R)) (after : List (Held S)) → Went searches begin seats log → Finished (seated seats log) → after ≡ map (λ (seat : Seat S). seat.held) seats → GoesRound recording searching searches begin after log
   went_out searches begin seats log after went finished after_is = record {
     last = seated seats log;
@@ -398,6 +438,11 @@ pub runs_of_one : {R K G S : Type 0} (recording : Recording R K G) (searching : 
 runs_of_one recording searching seats now seat after log more was is run first begins =
     subst (λ members. Runs recording searching 1 even first (seated seats log) (seated members more)) (sym is)
     (subst (λ members. Runs recording searching 1 even first (seated members log) (seated (after ∷ []) more)) (sym was) (run first begins))
+
+pub comes_of_one : {R K G S : Type 0} (recording : Recording R K G) (searching : Searching R K G S) (seats : List (Seat S)) (seat : Seat S) (log new : List (Entry R)) → seats ≡ seat ∷ [] →
+    ((first : List (Entry R)) → Begins first log → ComesTo recording searching first (seated (seat ∷ []) log) new) →
+    (first : List (Entry R)) → Begins first log → ComesTo recording searching first (seated seats log) new
+comes_of_one recording searching seats seat log new was later first begins = subst (λ members. ComesTo recording searching first (seated members log) new) (sym was) (later first begins)
 
 -- a turn that is put down is an event
 module _ {R K G S : Type 0} (recording : Recording R K G) (searching : Searching R K G S) (seat after : Seat S) (log new : List (Entry R)) (search : S) (units : ℕ) (facts : Facts R) (outcome : Outcome R) (dropped : Bool) where
@@ -435,6 +480,20 @@ module _ {R K G S : Type 0} (recording : Recording R K G) (searching : Searching
     once = λ stopped kept. once stopped;
   }
 
+-- the last members of equal lists are equal
+last_same : {X : Type 0} (xs ys : List X) (x y : X) → xs ++ x ∷ [] ≡ ys ++ y ∷ [] → x ≡ y
+last_same xs ys x y e = let turned : x ∷ reverse xs ≡ y ∷ reverse ys = sym (reverse-append xs (x ∷ [])) ∙ ap reverse e ∙ reverse-append ys (y ∷ []) in cc
+
+-- a search that goes on, and hasn't stopped in the run, found nothing and wasn't stopped
+went_on : {R : Type 0} (looked : Bool) (end : TurnEnd R) → end_after false end ≡ ends.More → (looked || (is_stopped end && not false)) ≡ false → end ≡ More
+went_on looked More more none = refl
+went_on looked (Found records) more none = absurd (cc)
+went_on looked (Closed records) more none = absurd (cc)
+went_on looked Idle more none = absurd (cc)
+went_on true (Stopped seen) more none = absurd (cc)
+went_on false (Stopped seen) more none = absurd (cc)
+went_on looked (Full what count) more none = absurd (cc)
+
 -- after a whole turn that was kept, a next one may follow
 module _ {R K S : Type 0} (settles : R → Option K) (key : S → K) (log new : List (Entry R)) (seat after : Seat S) (facts : Facts R) where
   pub follows_whole : PutsDown settles (key seat.held.search) log seat facts.upto whole false new after → after.looked ≡ false → seat.held.turns < 2 ^ 64 - 1 → Follows settles (key after.held.search) new after
@@ -449,6 +508,7 @@ module _ {R K S : Type 0} (settles : R → Option K) (key : S → K) (log new : 
         before = log;
         last = entry;
         log_is = put.log_is;
+        nothing = refl;
         next_is = ap (λ n. record (next_of entry) { turn = n }) next ∙ ap (λ n. record (entry_of {R = R} 1 (row_at after) whole false) { search = n }) (sym number);
         stays = ap (λ (r : Row S). r.left) row;
         goes_on = ap (λ (r : Row S). r.end) row;
@@ -460,11 +520,34 @@ module _ {R K S : Type 0} (settles : R → Option K) (key : S → K) (log new : 
             (let bad : false ≡ true = was in cc);
       }
 
-  pub follows_put : (outcome : Outcome R) (dropped : Bool) → outcome ≡ whole → dropped ≡ false → PutsDown settles (key seat.held.search) log seat facts.upto outcome dropped new after → after.looked ≡ false → after.held.turns < 2 ^ 64 - 1 → Follows settles (key after.held.search) new after
+  pub follows_put : (outcome : Outcome R) (dropped : Bool) → outcome ≡ whole → dropped ≡ false → PutsDown settles (key seat.held.search) log seat facts.upto outcome dropped new after → after.looked ≡ false → seat.held.turns < 2 ^ 64 - 1 → Follows settles (key after.held.search) new after
   follows_put outcome dropped made kept put unlooked fewer =
-      let down = subst (λ d. PutsDown settles (key seat.held.search) log seat facts.upto whole d new after) kept (subst (λ o. PutsDown settles (key seat.held.search) log seat facts.upto o dropped new after) made put) in
-      let turn : after.held.turns ≡ min (seat.held.turns + 1) (2 ^ 64 - 1) = ap (λ (r : Row S). r.turns) (down.row_is facts refl) in
-      follows_whole down unlooked (omega (arith, turn, fewer))
+      follows_whole (subst (λ d. PutsDown settles (key seat.held.search) log seat facts.upto whole d new after) kept (subst (λ o. PutsDown settles (key seat.held.search) log seat facts.upto o dropped new after) made put)) unlooked fewer
+
+  -- and a next one may follow only after such a turn
+  pub put_follows : (outcome : Outcome R) (dropped : Bool) → PutsDown settles (key seat.held.search) log seat facts.upto outcome dropped new after → Follows settles (key after.held.search) new after →
+      (outcome ≡ whole) × (dropped ≡ false) × (seat.held.turns < 2 ^ 64 - 1)
+  put_follows outcome dropped put follows =
+      let row = put.row_is facts refl in
+      let last = last_same log follows.before (entry_of 1 (row_at seat) outcome dropped) follows.last (sym put.log_is ∙ follows.log_is) in
+      let next = ap next_of last ∙ follows.next_is in
+      let spent : outcome.spent ≡ 1024 = ap (λ (e : Entry R). e.units) next in
+      let kept : dropped ≡ false = ap (λ (e : Entry R). e.dropped) next in
+      let turn : seat.held.turns + 1 ≡ after.held.turns = ap (λ (e : Entry R). e.turn) next in
+      let turns : after.held.turns ≡ min (seat.held.turns + 1) (2 ^ 64 - 1) = ap (λ (r : Row S). r.turns) row in
+      let ends : end_after false outcome.end ≡ ends.More = ap (λ d. end_after d outcome.end) (sym kept) ∙ sym (ap (λ (r : Row S). r.end) row) ∙ follows.goes_on in
+      let looked : (seat.looked || (is_stopped outcome.end && not false)) ≡ false = ap (λ d. seat.looked || (is_stopped outcome.end && not d)) (sym kept) ∙ sym (ap (λ (r : Row S). r.looked) row) ∙ follows.unlooked in
+      let more = went_on seat.looked outcome.end ends looked in
+      (λ i. record { spent = spent i; end = more i }, kept, omega (arith, turn, turns))
+
+-- the log's last entry was kept and found nothing
+pub last_is_empty : {R K S : Type 0} (settles : R → Option K) (key : K) (log : List (Entry R)) (seat : Seat S) (follows : Follows settles key log seat) → IsLastEmpty log follows.last
+last_is_empty settles key log seat follows = record {
+  before = follows.before;
+  log_is = follows.log_is;
+  kept = ap (λ entry. entry.dropped) follows.next_is;
+  nothing = follows.nothing;
+}
 
 -- a whole turn of a search that may follow is put down by the entry next to the last one
 module _ {R K S : Type 0} (settles : R → Option K) (log new : List (Entry R)) (seat after : Seat S) (search : S) (upto : ℕ) where
@@ -576,3 +659,12 @@ module _ {R K G S : Type 0} (recording : Recording R K G) (searching : Searching
 pub on_ok : {T E : Type 0} (P Q : Type 0) → (P → Q) → (result : Result T E) → OnOk result P → OnOk result Q
 on_ok P Q imply (Ok x) h = imply h
 on_ok P Q imply (Err e) h = tt
+
+pub any_err : {T E : Type 0} (Q : Type 0) → Q → (result : Result T E) → OnErr result Q
+any_err Q h (Ok x) = tt
+any_err Q h (Err e) = h
+
+-- what follows of a want of memory
+pub on_err : {T E : Type 0} (P Q : Type 0) → (P → Q) → (result : Result T E) → OnErr result P → OnErr result Q
+on_err P Q imply (Ok x) h = tt
+on_err P Q imply (Err e) h = imply h

@@ -9,6 +9,7 @@ use Rattle.mg_turn.specs.declared.outcome.TurnEnd.TheVariants as ended
 use Rattle.mg_workers.specs.declared.held.Held.{Held}
 use Rattle.mg_workers.specs.declared.held.End.TheVariants.{More}
 use Rattle.mg_workers.specs.declared.seat.Seat.{Seat}
+use Rattle.mg_workers.specs.declared.turns.TheConstants.{MOST_UNITS}
 use Rattle.mg_workers.specs.Run.{Row, Running, entry_of, row_after}
 use Rattle.mg_workers.specs.Round.{row_of}
 
@@ -42,14 +43,15 @@ pub record PutsDown {R K S : Type 0} (settles : R → Option K) (key : K) (old :
 
 -- the outcome of a turn that spends the most units and finds nothing
 abbrev pub whole : {R : Type 0} → Outcome R
-whole = record { spent = 1024; end = ended.More }
+whole = record { spent = MOST_UNITS; end = ended.More }
 
 -- the search goes on and hasn't looked, its key isn't settled, and a whole turn of it would put down an entry next to the
--- log's last one
+-- log's last one, which found nothing
 pub record Follows {R K S : Type 0} (settles : R → Option K) (key : K) (log : List (Entry R)) (seat : Seat S) : Type 0 where
   pub before : List (Entry R)
   pub last : Entry R
   pub log_is : log ≡ before ++ last ∷ []
+  pub nothing : last.records ≡ []
   pub next_is : next_of last ≡ entry_of 1 (row_at seat) whole false
   pub stays : seat.left ≡ false
   pub goes_on : seat.held.end ≡ More
@@ -61,9 +63,9 @@ abbrev pub after_whole : {S : Type 0} → Seat S → ℕ → S → ℕ → Seat 
 after_whole seat made search read = record seat {
   held = record (seat.held) {
     search = search;
-    held = seat.held.held - 1024 * made;
-    spent = seat.held.spent + 1024 * made;
-    allowed = seat.held.allowed - 1024 * made;
+    held = seat.held.held - MOST_UNITS * made;
+    spent = seat.held.spent + MOST_UNITS * made;
+    allowed = seat.held.allowed - MOST_UNITS * made;
     turns = seat.held.turns + made;
     read = read;
   };

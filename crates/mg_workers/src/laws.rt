@@ -8,6 +8,7 @@ ghost use Rattle.mg_workers.specs.Examples.{third_with};
 ghost use Rattle.mg_workers.specs.Rows.{EachPair, Keeps, AreFunded, AreApart, AreAsked, units_of, entries_of, total_spent, with_row};
 ghost use Rattle.mg_workers.specs.Run.{Row, Running, Begins, Event, Runs, Finished};
 ghost use Rattle.mg_workers.specs.declared.held.End.TheVariants.{More, Found};
+ghost use Rattle.mg_workers.specs.declared.turns.TheConstants.{MOST_UNITS};
 
 use mg_core::Record;
 use mg_turn::Searcher;
@@ -106,4 +107,9 @@ pub fn five_units_find<R: Record, P: Sizes>()
         let recording : Recording R R.Key R.Group = record { valid = R.valid; settles = R.settled; model_of = R.modelled } in
         Runs recording (third recording verdict) workers P.is_size begin (third_with key group number 5) new → Finished new →
         (after : Row (Third R.Key R.Group)) × (new.rows ≡ after ∷ []) × (after.spent ≡ 3) × (after.held ≡ 2) × (after.allowed ≡ 2) × (after.end ≡ Found) }
+{}
+
+/// The limit of a turn as a number.
+pub fn the_limits()
+    ensures { MOST_UNITS ≡ 1024 }
 {}

@@ -1,9 +1,9 @@
 //! One worker that goes round its searches.
-ghost use Rattle.std.specs.Prelude.{◌≡◌, ℕ, ◌+◌, ◌<◌, true, false, List, [], ◌∷◌, map, IfOk, OnOk};
+ghost use Rattle.std.specs.Prelude.{◌≡◌, ℕ, ◌+◌, ◌<◌, true, false, List, [], ◌∷◌, map, IfOk, OnOk, OnErr};
 ghost use Rattle.std.specs.List.{AllByRecursion};
 ghost use Rattle.mg_core.specs.declared.entries.Entry.{Entry as EntryOf};
 ghost use Rattle.mg_turn.specs.Turn.{Recording, Searching};
-ghost use Rattle.mg_workers.specs.Round.{even, row_of, IsFit, GoesRound};
+ghost use Rattle.mg_workers.specs.Round.{even, row_of, entered, ComesTo, IsFit, GoesRound};
 ghost use Rattle.mg_workers.specs.Run.{Begins, Runs, Finished};
 ghost use Rattle.mg_workers.specs.Seats.{row_at, seated, cells_of, turns_ahead};
 
@@ -30,6 +30,18 @@ fn go_once<R: Record, S: Searcher<R>>(
     ensures cells { OnOk result (cells_of seats.new ≡ cells_of seats.old) }
     ensures some { IfOk result (λ some. some ≡ true → turns_ahead (map row_at seats.new) < turns_ahead (map row_at seats.old)) }
     ensures none { IfOk result (λ some. some ≡ false → Finished (seated seats.new book.new)) }
+    ensures memory { let recording : Recording R R.Key R.Group =
+        record { valid = R.valid; settles = R.settled; model_of = R.modelled } in
+        let searching : Searching R R.Key R.Group S = record {
+          key = S.key_of;
+          group = S.group_of;
+          spent = S.spent_of;
+          is_open = S.is_open_of;
+          wants = S.wants_of;
+          turns = S.turns;
+        } in
+        OnErr result ((begin : List (EntryOf R)) → Begins begin book.old →
+        ComesTo recording searching begin (seated seats.old book.old) book.new) }
 {
     let mut some = false;
     for seat in seats.iter_mut() {
@@ -55,6 +67,18 @@ fn go_alone<R: Record, S: Searcher<R>>(
     ensures fit { let searching : Searching R R.Key R.Group S = record { key = S.key_of; group = S.group_of; spent = S.spent_of; is_open = S.is_open_of; wants = S.wants_of; turns = S.turns } in
         OnOk result (IsFit searching (row_at seat.new)) }
     ensures cell { OnOk result (seat.new.held.cell ≡ seat.old.held.cell) }
+    ensures memory { let recording : Recording R R.Key R.Group =
+        record { valid = R.valid; settles = R.settled; model_of = R.modelled } in
+        let searching : Searching R R.Key R.Group S = record {
+          key = S.key_of;
+          group = S.group_of;
+          spent = S.spent_of;
+          is_open = S.is_open_of;
+          wants = S.wants_of;
+          turns = S.turns;
+        } in
+        OnErr result ((begin : List (EntryOf R)) → Begins begin book.old →
+        ComesTo recording searching begin (seated (seat.old ∷ []) book.old) book.new) }
 {
     if !seat.goes_on() {
         return Ok(());
@@ -79,6 +103,18 @@ fn go_first<R: Record, S: Searcher<R>>(
     ensures fit { let searching : Searching R R.Key R.Group S = record { key = S.key_of; group = S.group_of; spent = S.spent_of; is_open = S.is_open_of; wants = S.wants_of; turns = S.turns } in
         OnOk result (AllByRecursion (IsFit searching) (map row_at seats.new)) }
     ensures cells { OnOk result (cells_of seats.new ≡ cells_of seats.old) }
+    ensures memory { let recording : Recording R R.Key R.Group =
+        record { valid = R.valid; settles = R.settled; model_of = R.modelled } in
+        let searching : Searching R R.Key R.Group S = record {
+          key = S.key_of;
+          group = S.group_of;
+          spent = S.spent_of;
+          is_open = S.is_open_of;
+          wants = S.wants_of;
+          turns = S.turns;
+        } in
+        OnErr result ((begin : List (EntryOf R)) → Begins begin book.old →
+        ComesTo recording searching begin (seated seats.old book.old) book.new) }
 {
     match seats {
         [seat] => go_alone(alloc, book, seat),
@@ -89,7 +125,8 @@ fn go_first<R: Record, S: Searcher<R>>(
 /// Goes round the searches in their order, as the one worker, until each has left or has no allowed units. Each is
 /// given a turn of what it may spend, of at most 1,024 units, and the models that it wants above what it has read; the
 /// entry of the turn is committed directly after it. A search that turns out to be settled has its turn dropped and
-/// ends `Stopped`. Where there is no memory the searches are gone.
+/// ends `Stopped`. Where there is no memory the searches are gone, and the book has the entries of the turns made so
+/// far.
 pub fn go_round<R: Record, S: Searcher<R> + Drop>(
     alloc: Global,
     book: &mut Book<R>,
@@ -97,9 +134,28 @@ pub fn go_round<R: Record, S: Searcher<R> + Drop>(
 ) -> Result<HeldList<S>, NoMemory>
     requires { let searching : Searching R R.Key R.Group S = record { key = S.key_of; group = S.group_of; spent = S.spent_of; is_open = S.is_open_of; wants = S.wants_of; turns = S.turns } in
         AllByRecursion (IsFit searching) (map (row_of false false) searches) }
-    ensures { let recording : Recording R R.Key R.Group = record { valid = R.valid; settles = R.settled; model_of = R.modelled } in
-        let searching : Searching R R.Key R.Group S = record { key = S.key_of; group = S.group_of; spent = S.spent_of; is_open = S.is_open_of; wants = S.wants_of; turns = S.turns } in
+    ensures ok { let recording : Recording R R.Key R.Group =
+        record { valid = R.valid; settles = R.settled; model_of = R.modelled } in
+        let searching : Searching R R.Key R.Group S = record {
+          key = S.key_of;
+          group = S.group_of;
+          spent = S.spent_of;
+          is_open = S.is_open_of;
+          wants = S.wants_of;
+          turns = S.turns;
+        } in
         IfOk result (λ after. GoesRound recording searching searches book.old after book.new) }
+    ensures memory { let recording : Recording R R.Key R.Group =
+        record { valid = R.valid; settles = R.settled; model_of = R.modelled } in
+        let searching : Searching R R.Key R.Group S = record {
+          key = S.key_of;
+          group = S.group_of;
+          spent = S.spent_of;
+          is_open = S.is_open_of;
+          wants = S.wants_of;
+          turns = S.turns;
+        } in
+        OnErr result (ComesTo recording searching book.old (entered searches book.old) book.new) }
 {
     let mut seats = seats_of(alloc, searches)?;
     go_first(alloc, book, &mut seats)?;

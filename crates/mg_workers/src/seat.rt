@@ -73,7 +73,7 @@ impl<S> Seat<S> {
 
     /// Counts so many whole turns, which have read up to this fact.
     pub(crate) fn count_whole(&mut self, made: u64, read: u64)
-        requires allowed { 1024 * made ≤ self.old.held.allowed }
+        requires allowed { MOST_UNITS * made ≤ self.old.held.allowed }
         requires within { self.old.held.allowed ≤ self.old.held.held }
         requires in_all { self.old.held.spent + self.old.held.held ≤ 2 ^ 62 }
         requires turns { self.old.held.turns + made < 2 ^ 64 }

@@ -1,11 +1,11 @@
 //! One turn of one search, and the entry that it puts into a book.
-ghost use Rattle.std.specs.Prelude.{◌≡◌, ℕ, ◌+◌, ◌-◌, ◌/◌, ◌≤◌, ◌<◌, ◌^◌, ◌↔◌, min, Bool, true, false, List, [], ◌∷◌, ◌++◌, length, if◌then◌else◌, Some, IsSome, IfSome, IfOk, OnOk, IsTrue, option_copied};
+ghost use Rattle.std.specs.Prelude.{◌≡◌, ℕ, ◌+◌, ◌-◌, ◌/◌, ◌≤◌, ◌<◌, ◌^◌, ◌↔◌, min, Bool, true, false, List, [], ◌∷◌, ◌++◌, length, if◌then◌else◌, Some, IsSome, IfSome, IfOk, OnOk, OnErr, IsTrue, option_copied};
 ghost use Rattle.std.specs.List.{AllByRecursion};
 ghost use Rattle.mg_core.specs.declared.entries.Entry.{Entry as EntryOf};
 ghost use Rattle.mg_core.specs.Book.{bare};
 ghost use Rattle.mg_core.specs.Log.{Settled};
 ghost use Rattle.mg_turn.specs.Turn.{Recording, Searching, IsSound, is_stopped, records_of};
-ghost use Rattle.mg_workers.specs.Round.{even, IsFit};
+ghost use Rattle.mg_workers.specs.Round.{even, ComesTo, IsFit};
 ghost use Rattle.mg_workers.specs.Run.{Begins, Event, Runs, end_after};
 ghost use Rattle.mg_workers.specs.Seats.{row_at, seated, whole, Follows, PutsDown};
 
@@ -180,6 +180,7 @@ fn commit<R: Record>(book: &mut Book<R>, key: &R::Key, entry: Entry<R>) -> Resul
     requires of_key { AllByRecursion (λ r. IfSome (R.settled r) (λ k. k ≡ key.now)) entry.records }
     ensures dropped { IfOk result (λ dropped. (dropped ≡ true) ↔ Settled R.settled book.old key.now) }
     ensures log { IfOk result (λ dropped. book.new ≡ book.old ++ (if dropped then bare entry else entry) ∷ []) }
+    ensures memory { OnErr result (book.new ≡ book.old) }
 {
     match book.commit(key, entry)? {
         Committed::Kept { .. } => Ok(false),
@@ -195,7 +196,7 @@ fn is_whole<R>(outcome: &Outcome<R>) -> bool
 }
 
 /// Whether whole turns may follow a turn, of which it is told whether it was whole and dropped, whether its search has
-/// looked, and how many turns that has made.
+/// looked, and how many turns that had made before.
 fn may_follow(is_whole: bool, dropped: bool, looked: bool, turns: u64) -> bool
     ensures { IsTrue result ↔ ((is_whole ≡ true) × (dropped ≡ false) × (looked ≡ false) × (turns < 2 ^ 64 - 1)) }
 {
@@ -216,7 +217,9 @@ fn put_down<R: Record, S: Searcher<R>>(
     requires in_all { seat.old.held.spent + seat.old.held.held ≤ 2 ^ 62 }
     requires few { length (records_of outcome.end) ≤ 2 }
     requires of_key { AllByRecursion (λ r. IfSome (R.settled r) (λ k. k ≡ S.key_of seat.old.held.search)) (records_of outcome.end) }
-    ensures { IfOk result (λ dropped. PutsDown R.settled (S.key_of seat.old.held.search) book.old seat.old upto outcome dropped book.new seat.new) }
+    ensures ok { IfOk result (λ dropped. PutsDown R.settled (S.key_of seat.old.held.search)
+        book.old seat.old upto outcome dropped book.new seat.new) }
+    ensures memory { OnErr result (book.new ≡ book.old) }
 {
     let turned = Turned {
         spent: outcome.spent,
@@ -237,8 +240,9 @@ fn put_down<R: Record, S: Searcher<R>>(
     Ok(dropped)
 }
 
-/// One turn of a search that goes on, whose entry is committed directly after it. True only where it was given the
-/// most units, spent them and found nothing, and its search goes on.
+/// One turn of a search that goes on, whose entry is committed directly after it. True exactly where whole turns may
+/// follow: it was given the most units, spent them and found nothing, and its search goes on. Where there is no memory
+/// the book stays as it was.
 pub(crate) fn take_turn<R: Record, S: Searcher<R>>(
     alloc: Global,
     book: &mut Book<R>,
@@ -252,7 +256,9 @@ pub(crate) fn take_turn<R: Record, S: Searcher<R>>(
         let searching : Searching R R.Key R.Group S = record { key = S.key_of; group = S.group_of; spent = S.spent_of; is_open = S.is_open_of; wants = S.wants_of; turns = S.turns } in
         OnOk result ((begin : List (EntryOf R)) → Begins begin book.old → Event recording searching 1 even begin (seated (seat.old ∷ []) book.old) (seated (seat.new ∷ []) book.new)) }
     ensures cell { OnOk result (seat.new.held.cell ≡ seat.old.held.cell) }
-    ensures alike { IfOk result (λ alike. alike ≡ true → Follows R.settled (S.key_of seat.new.held.search) book.new seat.new) }
+    ensures alike { IfOk result (λ alike.
+        (alike ≡ true) ↔ Follows R.settled (S.key_of seat.new.held.search) book.new seat.new) }
+    ensures memory { OnErr result (book.new ≡ book.old) }
 {
     let units = seat.held.allowed.min(MOST_UNITS);
     let wants = seat.held.search.wants(units);
@@ -267,13 +273,14 @@ pub(crate) fn take_turn<R: Record, S: Searcher<R>>(
         facts,
     )?;
     let whole = is_whole(&outcome);
+    let turns = seat.held.turns;
     let dropped = put_down(alloc, book, seat, upto, outcome)?;
-    Ok(may_follow(whole, dropped, seat.looked, seat.held.turns))
+    Ok(may_follow(whole, dropped, seat.looked, turns))
 }
 
 /// How many whole turns a search may make that may spend so many units and has made so many turns.
 fn most_whole(allowed: u64, turns: u64) -> u64
-    ensures value { result ≡ min (allowed / 1024) (2 ^ 64 - 1 - turns) }
+    ensures value { result ≡ min (allowed / MOST_UNITS) (2 ^ 64 - 1 - turns) }
     ensures counted { turns + result < 2 ^ 64 }
 {
     (allowed / MOST_UNITS).min(u64::MAX - turns)
@@ -282,7 +289,7 @@ fn most_whole(allowed: u64, turns: u64) -> u64
 /// Whole turns of a search, one after another, until one isn't whole or too few units are left for one. The last turn
 /// of the search stands last in the log and was whole. So the book has no verdict for its key, and the entry of each
 /// whole turn, which is committed directly after it, needs no second look. The search's account is brought up to date
-/// where it stops; where there is no memory it isn't.
+/// where it stops; where there is no memory it isn't, and the book has the entries of the turns made so far.
 pub(crate) fn take_whole_turns<R: Record, S: Searcher<R>>(
     alloc: Global,
     book: &mut Book<R>,
@@ -297,6 +304,18 @@ pub(crate) fn take_whole_turns<R: Record, S: Searcher<R>>(
     ensures fit { let searching : Searching R R.Key R.Group S = record { key = S.key_of; group = S.group_of; spent = S.spent_of; is_open = S.is_open_of; wants = S.wants_of; turns = S.turns } in
         OnOk result (IsFit searching (row_at seat.new)) }
     ensures cell { OnOk result (seat.new.held.cell ≡ seat.old.held.cell) }
+    ensures memory { let recording : Recording R R.Key R.Group =
+        record { valid = R.valid; settles = R.settled; model_of = R.modelled } in
+        let searching : Searching R R.Key R.Group S = record {
+          key = S.key_of;
+          group = S.group_of;
+          spent = S.spent_of;
+          is_open = S.is_open_of;
+          wants = S.wants_of;
+          turns = S.turns;
+        } in
+        OnErr result ((begin : List (EntryOf R)) → Begins begin book.old →
+        ComesTo recording searching begin (seated (seat.old ∷ []) book.old) book.new) }
 {
     let most = most_whole(seat.held.allowed, seat.held.turns);
     let mut read = seat.held.read;
@@ -311,7 +330,7 @@ pub(crate) fn take_whole_turns<R: Record, S: Searcher<R>>(
             put_down(alloc, book, seat, upto, outcome)?;
             return Ok(());
         }
-        book.commit_next()?;
+        book.commit_next(seat.held.search.key())?;
         read = upto;
         made += 1;
     }

@@ -1,8 +1,7 @@
 use Rattle.std.proofs.Common.{◌≡◌, [], ◌∷◌, ◌++◌, take}
-use Rattle.std.specs.Prelude.{map, codes}
-use Rattle.std.specs.List.{flat_map}
-use Rattle.mg_certtext.specs.Pieces.{spaced}
+use Rattle.std.specs.Prelude.{map}
+use Rattle.mg_certtext.specs.Pieces.{spaced, more_listed}
 use Rattle.mg_certtext.proofs.words.push_more_names.Given as goal
 
 abbrev pub invariant-loop-name : goal.invariant-loop-name
-invariant-loop-name l = l.out.items ≡ l.fn.out.items ++ spaced (flat_map (λ member. codes "," ∷ member) (map (λ name. name ∷ []) (take l.name-index l.names)))
+invariant-loop-name l = l.out.items ≡ l.fn.out.items ++ spaced (more_listed (map (λ name. name ∷ []) (take l.name-index l.names)))

@@ -1,6 +1,6 @@
 use Rattle.std.proofs.Common.{◌≡◌, ◌-◌, ℤ, List, [], ◌++◌, length, drop, sym, ap, subst, ◌∙◌, arith}
 use Rattle.std.specs.Prelude.{slice_get, slice_index_or, Some}
-use Rattle.mg_words.proofs.Free.{free_form}
+use Rattle.mg_words.specs.Reduction.{free_form}
 use Rattle.mg_present.specs.Same.{signed}
 use Rattle.mg_derive.specs.Symbols.{IsPlaceIn}
 use Rattle.mg_derive.proofs.Steps.{letter_within, letter_exact, relator_exact, member_exact, cut_exact, cut_refused_letters, cut_refused_goal, empty, not_empty, not_same}

@@ -1,7 +1,6 @@
 use Rattle.std.proofs.Common.{◌≡◌, ◌-◌, ℤ, List, [], ◌++◌, sym, ap, subst, ◌∙◌}
 use Rattle.std.specs.Prelude.{slice_get, slice_index_or, Some, not}
-use Rattle.mg_words.specs.Reduction.{PushesReduced}
-use Rattle.mg_words.proofs.Free.{free_form}
+use Rattle.mg_words.specs.Reduction.{PushesReduced, free_form}
 use Rattle.mg_present.specs.Same.{signed}
 use Rattle.mg_derive.specs.declared.symbol.Symbol.{Symbol}
 use Rattle.mg_derive.specs.Symbols.{IsPlaceIn, IsSymbolOf}

@@ -1,5 +1,5 @@
 use Rattle.std.proofs.Common.{◌≡◌, ◌≤◌, ◌++◌, map, neg_ℤ}
-use Rattle.mg_words.proofs.Free.{free_form}
+use Rattle.mg_words.specs.Reduction.{free_form}
 use Rattle.mg_derive.proofs.checker.write_inverse.Given as goal
 
 abbrev pub invariant-loop-letter : goal.invariant-loop-letter

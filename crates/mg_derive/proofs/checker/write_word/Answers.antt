@@ -1,6 +1,7 @@
 use Rattle.std.proofs.Common.{◌≡◌, ◌++◌, take, ap, ◌∙◌, arith}
 use Rattle.std.proofs.lemmas.List.{take_all}
-use Rattle.mg_words.proofs.Free.{free_form, reduced_as_form}
+use Rattle.mg_words.specs.Reduction.{free_form}
+use Rattle.mg_words.proofs.Free.{reduced_as_form}
 use Rattle.mg_derive.proofs.Steps.{word_start, word_next, word_room, product_length}
 use Rattle.mg_derive.proofs.checker.write_word.Goals as goal
 

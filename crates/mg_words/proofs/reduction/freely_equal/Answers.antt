@@ -3,7 +3,8 @@ use Rattle.std.proofs.lemmas.List.{length-reverse, length-map, map_push}
 use Rattle.std.proofs.lemmas.Iterator.Adapters.{YieldsList-from_rev_slice}
 use Rattle.std.proofs.lemmas.Iterator.Consumers.{YieldsList-turn, YieldsList-end}
 use Rattle.mg_words.specs.Word.{inv}
-use Rattle.mg_words.proofs.Free.{free_form, reduced_as_form, pushed_next, pushed_room, pushed_back, back_room, quotient_decides}
+use Rattle.mg_words.specs.Reduction.{free_form}
+use Rattle.mg_words.proofs.Free.{reduced_as_form, pushed_next, pushed_room, pushed_back, back_room, quotient_decides}
 use Rattle.mg_words.proofs.reduction.freely_equal.Goals as goal
 
 pub push_reduced-requires-clause-reduced : goal.push_reduced-requires-clause-reduced

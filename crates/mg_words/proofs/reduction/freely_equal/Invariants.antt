@@ -1,5 +1,5 @@
 use Rattle.std.proofs.Common.{◌≡◌, ◌+◌, ◌≤◌, ◌++◌, length, take, map, neg_ℤ}
-use Rattle.mg_words.proofs.Free.{free_form}
+use Rattle.mg_words.specs.Reduction.{free_form}
 use Rattle.mg_words.proofs.reduction.freely_equal.Given as goal
 
 -- the letters of the first word before the place are in normal form

@@ -1,7 +1,8 @@
 use Rattle.std.proofs.Common.{◌≡◌, List, ℤ, sym, subst, ap, ◌∙◌, arith}
 use Rattle.mg_words.specs.Word.{IsOver}
 use Rattle.mg_words.specs.Chain.{FreelyEqual}
-use Rattle.mg_words.proofs.Free.{free_form, reduced_as_form, pushed_next, pushed_room, pushed_all, free_form-freely, IsOver-free_form}
+use Rattle.mg_words.specs.Reduction.{free_form}
+use Rattle.mg_words.proofs.Free.{reduced_as_form, pushed_next, pushed_room, pushed_all, free_form-freely, IsOver-free_form}
 use Rattle.std.proofs.Common.{take}
 use Rattle.mg_words.proofs.reduction.reduce.Goals as goal
 
@@ -17,6 +18,10 @@ loop-x-preserved c = record {
   done = pushed_next c.letters-letters.result.now _ _ c.loop-x.x-index c.x-item.result (omega arith) c.x-item.is c.loop-x.invariant.done c.push_reduced.ensures.pushed;
   room = omega arith;
 }
+
+pub returns-clause-form : goal.returns-clause-form
+returns-clause-form c =
+    pushed_all c.letters-letters.result.now _ _ (omega arith) c.loop-x.invariant.done ∙ ap free_form c.letters-letters.ensures
 
 pub returns-clause-equal : goal.returns-clause-equal
 returns-clause-equal c =

@@ -1,5 +1,5 @@
 use Rattle.std.proofs.Common.{◌≡◌, ◌≤◌, length, take}
-use Rattle.mg_words.proofs.Free.{free_form}
+use Rattle.mg_words.specs.Reduction.{free_form}
 use Rattle.mg_words.proofs.reduction.reduce.Given as goal
 
 -- the letters before the place are in normal form

@@ -1,4 +1,4 @@
-use Rattle.mg_workers.proofs.Rounds.{alone_in, alone_next, alone_then}
+use Rattle.mg_workers.proofs.Rounds.{alone_in, alone_lost, alone_lost_later, alone_next, alone_then, any_err}
 use Rattle.mg_workers.proofs.round.go_alone.Goals as goal
 
 pub take_whole_turns-requires-clause-fit : goal.take_whole_turns-requires-clause-fit
@@ -25,3 +25,16 @@ returns-else-branch-clause-fit g c =
     let seat = c.args.seat.now in
     let log = c.args.book.now in
     (alone_next _ _ g.met.S.Searcher.sound seat log seat c.take_turn.new.seat log c.take_turn.new.book c.in_ok-take_turn.ensures.event (alone_in _ _ seat log c.requires)).fit
+
+pub returns-in_err-take_turn-clause-memory : goal.returns-in_err-take_turn-clause-memory
+returns-in_err-take_turn-clause-memory g c =
+    let seat = c.args.seat.now in
+    let log = c.args.book.now in
+    any_err _ (alone_lost _ _ seat log seat log c.take_turn.new.book c.in_err-take_turn.ensures.memory (alone_in _ _ seat log c.requires)) _
+
+pub returns-in_err-take_whole_turns-clause-memory : goal.returns-in_err-take_whole_turns-clause-memory
+returns-in_err-take_whole_turns-clause-memory g c =
+    let seat = c.args.seat.now in
+    let log = c.args.book.now in
+    let one = alone_next _ _ g.met.S.Searcher.sound seat log seat c.take_turn.new.seat log c.take_turn.new.book c.in_ok-take_turn.ensures.event (alone_in _ _ seat log c.requires) in
+    any_err _ (alone_lost_later _ _ seat log c.take_turn.new.seat c.take_turn.new.book c.take_whole_turns.new.book c.in_err-take_whole_turns.ensures.memory one) _

@@ -7,8 +7,8 @@ use Rattle.mg_workers.specs.Seats.{row_at}
 use Rattle.mg_workers.proofs.Rounds.{entry_is, row_is}
 use Rattle.mg_workers.proofs.turns.put_down.Goals as goal
 
-pub returns : goal.returns
-returns g c =
+pub returns-clause-ok : goal.returns-clause-ok
+returns-clause-ok g c =
     let seat = c.args.seat.now in
     let log = c.args.book.now in
     let outcome = c.args.outcome in

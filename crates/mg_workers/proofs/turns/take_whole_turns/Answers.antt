@@ -1,9 +1,9 @@
 use Rattle.std.proofs.Common.{◌≡◌, Some, ◌∙◌, ap, subst, arith, refl, rules}
 use Rattle.std.specs.List.{AllByRecursion}
 use Rattle.std.proofs.Math.Nat.{mul-div-le}
-use Rattle.mg_core.specs.Log.{Handed}
+use Rattle.mg_core.specs.Log.{Settled, Handed}
 use Rattle.mg_core.proofs.Hands.{handed_of_group}
-use Rattle.mg_workers.proofs.Rounds.{brings_settling, wholly_in, wholly_out, wholly_last, wholly_next}
+use Rattle.mg_workers.proofs.Rounds.{alone_lost, any_err, brings_settling, last_is_empty, wholly_in, wholly_out, wholly_last, wholly_next}
 use Rattle.mg_workers.proofs.turns.take_whole_turns.Goals as goal
 
 pub loop-made-init : goal.loop-made-init
@@ -27,7 +27,7 @@ returns-then-not-is_whole-clause-runs g c =
     let handed = subst (λ group. Handed g.R.Record.modelled c.loop-made.book group read c.wants-wants.result facts) c.group.ensures c.in_ok-facts.ensures in
     let handed_wanted = subst (λ most. Handed g.R.Record.modelled c.loop-made.book (g.S.Searcher.group_of seat.held.search) read most facts) c.wants-wants.ensures handed in
     (wholly_last _ _ c.args.seat.now c.args.book.now seat c.loop-made.book c.loop-made.made c.most_whole-most.result read c.loop-made.invariant g.met.S.Searcher.sound (search rules) c.turn_told.new.search facts c.in_ok-outcome.outcome c.put_down.new.book handed_wanted
-    c.in_ok-outcome.ensures.turns c.in_ok-outcome.ensures.sound.key c.in_ok-put_down.field-0 c.count_whole.new.self c.put_down.new.seat c.count_whole.ensures c.in_ok-put_down.ensures).runs
+    c.in_ok-outcome.ensures.turns c.in_ok-outcome.ensures.sound.key c.in_ok-put_down.field-0 c.count_whole.new.self c.put_down.new.seat c.count_whole.ensures c.in_ok-put_down.ensures.ok).runs
 
 pub returns-then-not-is_whole-clause-fit : goal.returns-then-not-is_whole-clause-fit
 returns-then-not-is_whole-clause-fit g c =
@@ -37,7 +37,14 @@ returns-then-not-is_whole-clause-fit g c =
     let handed = subst (λ group. Handed g.R.Record.modelled c.loop-made.book group read c.wants-wants.result facts) c.group.ensures c.in_ok-facts.ensures in
     let handed_wanted = subst (λ most. Handed g.R.Record.modelled c.loop-made.book (g.S.Searcher.group_of seat.held.search) read most facts) c.wants-wants.ensures handed in
     (wholly_last _ _ c.args.seat.now c.args.book.now seat c.loop-made.book c.loop-made.made c.most_whole-most.result read c.loop-made.invariant g.met.S.Searcher.sound (search rules) c.turn_told.new.search facts c.in_ok-outcome.outcome c.put_down.new.book handed_wanted
-    c.in_ok-outcome.ensures.turns c.in_ok-outcome.ensures.sound.key c.in_ok-put_down.field-0 c.count_whole.new.self c.put_down.new.seat c.count_whole.ensures c.in_ok-put_down.ensures).fit
+    c.in_ok-outcome.ensures.turns c.in_ok-outcome.ensures.sound.key c.in_ok-put_down.field-0 c.count_whole.new.self c.put_down.new.seat c.count_whole.ensures c.in_ok-put_down.ensures.ok).fit
+
+pub commit_next-requires-clause-last : goal.commit_next-requires-clause-last
+commit_next-requires-clause-last g c = (c.loop-made.invariant.follows.last, last_is_empty _ _ _ _ c.loop-made.invariant.follows)
+
+pub commit_next-requires-clause-unsettled : goal.commit_next-requires-clause-unsettled
+commit_next-requires-clause-unsettled g c settled =
+    c.loop-made.invariant.follows.unsettled (subst (λ key. Settled g.R.Record.settled c.loop-made.book key) (c.key.ensures ∙ c.in_ok-outcome.ensures.sound.key) settled)
 
 pub loop-made-preserved : goal.loop-made-preserved
 loop-made-preserved g c =
@@ -48,8 +55,20 @@ loop-made-preserved g c =
     let handed = subst (λ group. Handed g.R.Record.modelled c.loop-made.book group read c.wants-wants.result facts) c.group.ensures c.in_ok-facts.ensures in
     let handed_wanted = subst (λ most. Handed g.R.Record.modelled c.loop-made.book (g.S.Searcher.group_of seat.held.search) read most facts) c.wants-wants.ensures handed in
     wholly_next _ _ c.args.seat.now c.args.book.now seat c.loop-made.book c.loop-made.made c.most_whole-most.result read was g.met.S.Searcher.sound (search rules) c.turn_told.new.search facts c.in_ok-outcome.outcome c.commit_next.new.self handed_wanted
-    c.in_ok-outcome.ensures.turns c.in_ok-outcome.ensures.sound.key (c.is_whole.ensures.0 (search rules)) (c.in_ok-commit_next.ensures.ok was.follows.before was.follows.last was.follows.log_is)
+    c.in_ok-outcome.ensures.turns c.in_ok-outcome.ensures.sound.key (c.is_whole.ensures.0 (search rules)) (c.in_ok-commit_next.ensures.ok was.follows.last (last_is_empty _ _ _ _ was.follows)).1
 
 pub returns-clause-runs : goal.returns-clause-runs
 returns-clause-runs g c =
     (wholly_out _ _ c.args.seat.now c.args.book.now c.loop-made.seat c.loop-made.book c.loop-made.made c.most_whole-most.result c.loop-made.read c.loop-made.invariant c.count_whole-2.new.self c.count_whole-2.ensures).runs
+
+pub returns-in_err-facts-clause-memory : goal.returns-in_err-facts-clause-memory
+returns-in_err-facts-clause-memory g c = any_err _ (alone_lost _ _ c.args.seat.now c.args.book.now _ c.loop-made.book c.loop-made.book refl c.loop-made.invariant.alone) _
+
+pub returns-in_err-outcome-clause-memory : goal.returns-in_err-outcome-clause-memory
+returns-in_err-outcome-clause-memory g c = any_err _ (alone_lost _ _ c.args.seat.now c.args.book.now _ c.loop-made.book c.loop-made.book refl c.loop-made.invariant.alone) _
+
+pub returns-in_err-put_down-clause-memory : goal.returns-in_err-put_down-clause-memory
+returns-in_err-put_down-clause-memory g c = any_err _ (alone_lost _ _ c.args.seat.now c.args.book.now _ c.loop-made.book c.put_down.new.book c.in_err-put_down.ensures.memory c.loop-made.invariant.alone) _
+
+pub returns-in_err-commit_next-clause-memory : goal.returns-in_err-commit_next-clause-memory
+returns-in_err-commit_next-clause-memory g c = any_err _ (alone_lost _ _ c.args.seat.now c.args.book.now _ c.loop-made.book c.commit_next.new.self c.in_err-commit_next.ensures.err c.loop-made.invariant.alone) _

@@ -1,26 +1,13 @@
-use Rattle.std.proofs.Common.{None, refl}
 use Rattle.std.proofs.lemmas.Result.{err_from_is_err_and}
-use Rattle.mg_script.specs.Grammar.{Rest, end, word_then, asked_rest}
+use Rattle.mg_script.specs.Grammar.{end, asked_rest}
 use Rattle.mg_script.proofs.Steps.{passed_on}
 use Rattle.mg_script.proofs.reader.Reader.ask.Goals as goal
-
-abbrev question_rest : Rest
-question_rest = word_then None None asked_rest
 
 pub returns-in_err-signs : goal.returns-in_err-signs
 returns-in_err-signs c = λ s knows.
     passed_on s end c.signs.new.self c.from_residual.result c.in_err-signs.field-0.0 (err_from_is_err_and c.from_residual.result c.from_residual.ensures.1)
-    (c.in_err-signs.ensures.brings s question_rest (rw (c.counted_name.ensures, c.mark.ensures) knows))
-
-pub returns-in_err-word : goal.returns-in_err-word
-returns-in_err-word c = λ s knows.
-    let after = c.in_ok-signs.ensures.brings s question_rest (rw (c.counted_name.ensures, c.mark.ensures) knows) in
-    passed_on s end c.word.new.self c.from_residual-in_err-word.result c.in_err-word.field-0.0
-    (err_from_is_err_and c.from_residual-in_err-word.result c.from_residual-in_err-word.ensures.1)
-    (c.in_err-word.ensures.brings s None asked_rest refl after)
+    (c.in_err-signs.ensures.brings s asked_rest (rw (c.counted_name.ensures, c.mark.ensures) knows))
 
 pub returns : goal.returns
 returns c = λ s knows.
-    let after = c.in_ok-signs.ensures.brings s question_rest (rw (c.counted_name.ensures, c.mark.ensures) knows) in
-    let word = c.in_ok-word.ensures.brings s None asked_rest refl after in
-    c.asked.ensures s word.0 word.1 word.2
+    c.asked.ensures s (c.in_ok-signs.ensures.brings s asked_rest (rw (c.counted_name.ensures, c.mark.ensures) knows))

@@ -2,6 +2,7 @@ use Rattle.std.proofs.Common.{None, refl}
 use Rattle.std.proofs.lemmas.Result.{err_from_is_err_and}
 use Rattle.mg_lex.specs.declared.keyword.Keyword.TheVariants as keyword
 use Rattle.mg_script.specs.Grammar.{Rest, end, word_then, either, keyword_then, in_group, in_rest}
+use Rattle.mg_script.specs.Reader.{any_word}
 use Rattle.mg_script.proofs.Steps.{went_first, went_second, passed_on}
 use Rattle.mg_script.proofs.reader.Reader.asked_of_word.Goals as goal
 
@@ -18,12 +19,12 @@ pub returns-in_err-word : goal.returns-in_err-word
 returns-in_err-word c = λ s knows.
     let first = went_first s equal_rest others_rest c.takes.new.self c.takes.result (c.takes.ensures.chooses s equal_rest others_rest knows) c.if-takes.true in
     passed_on s end c.word.new.self c.from_residual.result c.in_err-word.field-0.0 (err_from_is_err_and c.from_residual.result c.from_residual.ensures.1)
-    (c.in_err-word.ensures.brings s None (λ v. in_group) refl first)
+    (c.in_err-word.ensures.brings s None (λ v. in_group) _ refl (any_word None None (λ v. in_group)) first)
 
 pub returns-in_ok-word : goal.returns-in_ok-word
 returns-in_ok-word c = λ s knows.
     let first = went_first s equal_rest others_rest c.takes.new.self c.takes.result (c.takes.ensures.chooses s equal_rest others_rest knows) c.if-takes.true in
-    let word = c.in_ok-word.ensures.brings s None (λ v. in_group) refl first in
+    let word = c.in_ok-word.ensures.brings s None (λ v. in_group) _ refl (any_word None None (λ v. in_group)) first in
     let after = word.2 in
     c.signs.ensures.brings s end (rw c.keyword.ensures after)
 

@@ -1,6 +1,7 @@
 use Rattle.std.proofs.Common.{None, refl}
 use Rattle.std.proofs.lemmas.Result.{err_from_is_err_and}
 use Rattle.mg_script.specs.Grammar.{Rest, end, word_then}
+use Rattle.mg_script.specs.Reader.{any_word}
 use Rattle.mg_script.proofs.Steps.{passed_on}
 use Rattle.mg_script.proofs.reader.Reader.word_statement.Goals as goal
 
@@ -17,9 +18,9 @@ returns-in_err-word c = λ s knows.
     let after = c.in_ok-signs.ensures.brings s value_rest (rw (c.counted_name.ensures, c.keyword.ensures, c.mark.ensures) knows) in
     passed_on s end c.word.new.self c.from_residual-in_err-word.result c.in_err-word.field-0.0
     (err_from_is_err_and c.from_residual-in_err-word.result c.from_residual-in_err-word.ensures.1)
-    (c.in_err-word.ensures.brings s None (λ w. end) refl after)
+    (c.in_err-word.ensures.brings s None (λ w. end) _ refl (any_word None None (λ w. end)) after)
 
 pub returns : goal.returns
 returns c = λ s knows.
     let after = c.in_ok-signs.ensures.brings s value_rest (rw (c.counted_name.ensures, c.keyword.ensures, c.mark.ensures) knows) in
-    (c.in_ok-word.ensures.brings s None (λ w. end) refl after).2
+    (c.in_ok-word.ensures.brings s None (λ w. end) _ refl (any_word None None (λ w. end)) after).2
