@@ -26,7 +26,7 @@ use Rattle.mg_plain.proofs.Turns.{turn_publishes}
 use Rattle.mg_search.specs.Search.{Search, plain, searching, ask_of, is_open, models_wanted, SearchTurn, InRow, HasPublished}
 use Rattle.mg_search.proofs.Turns.{sound, keeps_row}
 use Rattle.mg_session.specs.Run.{KeepsVerdict}
-use Rattle.mg_session.specs.StateOk.{IsOpenAt, EndsSo, Stands}
+use Rattle.mg_session.specs.StateOk.{IsOpenAt, EndsSo, StandsBeside}
 use Rattle.mg_session.proofs.Lists.{all-set}
 use Rattle.mg_session.proofs.Keepers.{Brings, IsKeeperOf, is_new, is_old, keeper_grows, keeper_back}
 use Rattle.mg_session.proofs.Settling.{settled_grows, kept_settles}
@@ -70,7 +70,7 @@ module _ (log : List (Entry Fact)) (entry : Entry Fact) where
   keeper_was ask number kept other same (is_old k) = k
 
   -- the entry of another search changes nothing of how a search stands
-  stands_beside : (row : Row Search) → entry.search ≢ row.number → Stands log row → Stands longer row
+  stands_beside : (row : Row Search) → entry.search ≢ row.number → StandsBeside log row → StandsBeside longer row
   stands_beside row other h = record {
     in_row = h.in_row;
     units = h.units;
@@ -121,7 +121,7 @@ module _ (log : List (Entry Fact)) (pass units : ℕ) (row : Row Search) (facts 
   abbrev pub entry : Bool → Entry Fact
   entry dropped = entry_of pass row outcome dropped
 
-  module _ (opened : is_open row.search ≡ true) (turn : SearchTurn row.search units facts outcome after) (sound : IsSound recording searching row.search units facts outcome after) (h : Stands log row) where
+  module _ (opened : is_open row.search ≡ true) (turn : SearchTurn row.search units facts outcome after) (sound : IsSound recording searching row.search units facts outcome after) (h : StandsBeside log row) where
     no_old : (kept : Entry Fact) → kept.search ≡ row.number → KeeperOf key_of log (ask_of row.search) kept → ⊥
     no_old kept same k = not_found row.search row.end h.end.openness opened (h.end.found.1 (kept, k, same))
 
@@ -208,7 +208,7 @@ module _ (log : List (Entry Fact)) (pass units : ℕ) (row : Row Search) (facts 
         ]
 
     pub stands_turn : (dropped : Bool) (seen : List (Entry Fact)) → (dropped ≡ true) ↔ Settled key_of log (ask_of row.search) → Handed recording.model_of seen (ask_of row.search).group row.read (models_wanted row.search units) facts →
-        Stands (log ++ entry dropped ∷ []) (row_after row facts outcome dropped after)
+        StandsBeside (log ++ entry dropped ∷ []) (row_after row facts outcome dropped after)
     stands_turn dropped seen was handed =
         let units_then = sound.spent in
         let agreed = h.units in
@@ -227,13 +227,13 @@ module _ (log : List (Entry Fact)) (pass units : ℕ) (row : Row Search) (facts 
 
 -- an event keeps how all searches of the run stand
 pub event_stands : (workers : ℕ) (IsSize : ℕ → ℕ → ℕ → ℕ → Type 0) (begin : List (Entry Fact)) (old new : Running Fact Search) → Event recording searching workers IsSize begin old new → AreApart old.rows →
-    AllByRecursion (Stands old.log) old.rows → AllByRecursion (Stands new.log) new.rows
+    AllByRecursion (StandsBeside old.log) old.rows → AllByRecursion (StandsBeside new.log) new.rows
 event_stands workers IsSize begin old new event apart h =
     let entry = entry_of event.pass event.row event.outcome event.dropped in
     let turned = event_sound recording searching workers IsSize begin sound old new event in
-    let row = all_at (Stands old.log) old.rows event.place event.row h event.of_row in
-    subst (λ (log : List (Entry Fact)). AllByRecursion (Stands log) new.rows) (sym event.log)
-    (subst (AllByRecursion (Stands (old.log ++ entry ∷ []))) (sym event.rows)
-    (all-set (Stands old.log) (Stands (old.log ++ entry ∷ [])) (λ (x z : Row Search). x.number ≢ z.number) old.rows event.place event.row (row_after event.row event.facts event.outcome event.dropped event.search) event.of_row
+    let row = all_at (StandsBeside old.log) old.rows event.place event.row h event.of_row in
+    subst (λ (log : List (Entry Fact)). AllByRecursion (StandsBeside log) new.rows) (sym event.log)
+    (subst (AllByRecursion (StandsBeside (old.log ++ entry ∷ []))) (sym event.rows)
+    (all-set (StandsBeside old.log) (StandsBeside (old.log ++ entry ∷ [])) (λ (x z : Row Search). x.number ≢ z.number) old.rows event.place event.row (row_after event.row event.facts event.outcome event.dropped event.search) event.of_row
     (stands_turn old.log event.pass event.units event.row event.facts event.outcome event.search event.openness event.turn turned row event.dropped event.seen event.is_dropped event.handed)
     (λ z other. stands_beside old.log entry z other) (others_apart old.rows event.place event.row apart event.of_row) h))

@@ -1,26 +1,27 @@
-pub mod Lists
+mod Lists
 pub mod Ledger
-pub mod Asks
-pub mod Settling
-pub mod Keepers
-pub mod Events
-pub mod Rounds
+mod Asks
+mod Settling
+mod Keepers
+mod Events
+mod Rounds
 pub mod States
 pub mod Runs
 pub mod Reaching
 pub mod Printed
 pub mod Steps
-pub mod Refused
-pub mod Others
-pub mod Unbuilt
+mod Refused
+mod Others
+mod Unbuilt
 pub mod Meanings
-pub mod Firsts
-pub mod Seen
-pub mod Moving
-pub mod Phasing
-pub mod Joining
-pub mod Weaving
-pub mod Looked
-pub mod Shown
-pub mod Logged
-pub mod Sessions
+mod Firsts
+mod Seen
+mod Moving
+mod Phasing
+mod Joining
+mod Weaving
+mod Looked
+mod Shown
+mod Logged
+mod Sessions
+pub mod Verdicts

@@ -15,10 +15,10 @@ use Rattle.mg_certs.specs.Validity.{IsValid, key_of}
 use Rattle.mg_report.specs.Report.{SearchLine}
 use Rattle.mg_report.specs.Values.{search_of}
 use Rattle.mg_report.specs.declared.blocks.SearchLine.{SearchLine as Line}
-use Rattle.mg_session.specs.State.{State, SearchState, asks, row_of}
+use Rattle.mg_session.specs.State.{State, SearchState, asks, row_taken}
 use Rattle.mg_session.specs.Output.{line_of, IsSumLine}
-use Rattle.mg_session.specs.StateOk.{IsAsked, Stands, StateOk}
-use Rattle.mg_session.specs.Lookups.{IsAt, IsTooLate, HasCause}
+use Rattle.mg_session.specs.StateOk.{IsAsked, StandsBeside, StateOk}
+use Rattle.mg_session.specs.Lookups.{ReadsAt, IsTooLate, HasCause}
 use Rattle.mg_session.proofs.Firsts.{pairs_more}
 use Rattle.mg_session.proofs.Looked.{IsSearchOf, search_of_entry}
 use Rattle.mg_session.proofs.Settling.{settled_grows}
@@ -74,14 +74,14 @@ pub causes : (plan : Plan) (workers : ℕ) (state : State) → StateOk plan work
 causes plan workers state ok = causes_from state [] state.log (λ entry key asked. search_of_entry 1 state.searches entry key ok.numbered asked) refl ok.legal
 
 -- the question of the search at a place is there
-pub question_within : (plan : Plan) (workers : ℕ) (state : State) (i question : ℕ) → StateOk plan workers state → IsAt (λ search. search.question) state i question → question < length plan.questions
+pub question_within : (plan : Plan) (workers : ℕ) (state : State) (i question : ℕ) → StateOk plan workers state → ReadsAt (λ search. search.question) state i question → question < length plan.questions
 question_within plan workers state i question ok asked =
     let is = (all_at (IsAsked plan) state.searches i asked.search ok.asked asked.there).asked in
     let within = slice_get_within plan.questions asked.search.question is.0 is.1 in
     let same = asked.value_is in omega arith
 
 -- what is read of the search at a place is its sum
-pub sum_is_so : (plan : Plan) (workers : ℕ) (state : State) (i question number : ℕ) (line : Line) (name : List ℕ) → StateOk plan workers state → IsAt (λ search. search.question) state i question → IsAt (λ search. search.number) state i number → IsAt line_of state i (search_of line) →
+pub sum_is_so : (plan : Plan) (workers : ℕ) (state : State) (i question number : ℕ) (line : Line) (name : List ℕ) → StateOk plan workers state → ReadsAt (λ search. search.question) state i question → ReadsAt (λ search. search.number) state i number → ReadsAt line_of state i (search_of line) →
     (asked : PlanQuestion) × (slice_get plan.questions question ≡ Some asked) × (name ≡ asked.name) →
     (search : SearchState) × (slice_get state.searches i ≡ Some search) × IsSumLine plan state search (record { search = number; name = name; procedure = line.procedure; units = line.account.spent })
 sum_is_so plan workers state i question number line name ok at_question at_number at_line asked =
@@ -90,7 +90,7 @@ sum_is_so plan workers state i question number line name ok at_question at_numbe
     let other : at_line.search ≡ x = (let a = at_line.there in let b = at_question.there in cc) in
     let number_is : number ≡ x.number = at_number.value_is ∙ ap (λ (s : SearchState). s.number) one in
     let line_is : search_of line ≡ line_of x = at_line.value_is ∙ ap line_of other in
-    let units : x.account.spent ≡ units_of x.number state.log = sym (all_at (λ (search : SearchState). Stands state.log (row_of true search)) state.searches i x ok.stand at_question.there).counted in (
+    let units : x.account.spent ≡ units_of x.number state.log = sym (all_at (λ (search : SearchState). StandsBeside state.log (row_taken true search)) state.searches i x ok.stand at_question.there).counted in (
       x,
       at_question.there,
       record {

@@ -15,7 +15,7 @@ use Rattle.mg_session.specs.declared.state.Kept.{Kept}
 use Rattle.mg_session.specs.Kept.{seen, all_seen, HaveCells}
 use Rattle.mg_session.specs.State.{State, SearchState, asks}
 use Rattle.mg_session.specs.StateOk.{AreNumbered}
-use Rattle.mg_session.specs.Lookups.{IsAt}
+use Rattle.mg_session.specs.Lookups.{ReadsAt}
 
 -- a list from a place on
 pub drop_at : {X : Type 0} (xs : List X) (i : ℕ) (x : X) → slice_get xs i ≡ Some x → drop i xs ≡ x ∷ drop (i + 1) xs
@@ -75,7 +75,7 @@ search_of_entry n (x ∷ xs) entry ask h asked = search_first (x.number == entry
 
 -- what is read of a search that is kept at a place is read of the state
 pub kept_at : {X : Type 0} (read : SearchState → X) (searches : List Kept) (cells : List Account) (i : ℕ) (kept : Kept) (state : State) (value : X) → HaveCells searches cells → all_seen 1 searches cells ≡ state.searches → slice_get searches i ≡ Some kept →
-    value ≡ read (seen (1 + i) kept (slice_index_or cells i no_units)) → IsAt read state i value
+    value ≡ read (seen (1 + i) kept (slice_index_or cells i no_units)) → ReadsAt read state i value
 kept_at read searches cells i kept state value have is there value_is = record {
   search = seen (1 + i) kept (slice_index_or cells i no_units);
   there = subst (λ (xs : List SearchState). slice_get xs i ≡ Some (seen (1 + i) kept (slice_index_or cells i no_units))) is (seen_at searches cells i kept have there);
@@ -88,7 +88,7 @@ member_at (x ∷ xs) zero h = (x, refl)
 member_at (x ∷ xs) (suc i) h = member_at xs i (omega arith)
 
 -- the number of the search at a place is the one above the place
-pub number_at : (searches : List Kept) (cells : List Account) (i : ℕ) (state : State) → HaveCells searches cells → all_seen 1 searches cells ≡ state.searches → i < length state.searches → IsAt (λ search. search.number) state i (i + 1)
+pub number_at : (searches : List Kept) (cells : List Account) (i : ℕ) (state : State) → HaveCells searches cells → all_seen 1 searches cells ≡ state.searches → i < length state.searches → ReadsAt (λ search. search.number) state i (i + 1)
 number_at searches cells i state have is within =
     let all = seen_count searches cells have in
     let same = ap length is in

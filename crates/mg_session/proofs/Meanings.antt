@@ -5,6 +5,7 @@ use Rattle.mg_script.specs.declared.script.ScriptLine.{ScriptLine}
 use Rattle.mg_script.specs.Script.{IsScript}
 use Rattle.mg_script.proofs.Scripts.{one_script}
 use Rattle.mg_script.proofs.Scripts as reading
+use Rattle.mg_script.proofs.Total.{script_or_refusal}
 use Rattle.mg_names.specs.Scope.{Scope, nothing}
 use Rattle.mg_names.specs.Resolve.{Means, IsPlanOf}
 use Rattle.mg_names.specs.Resolve as names
@@ -31,11 +32,14 @@ one_refusal bytes r s (in_resolving script read a) (in_reading b) = absurd (read
 one_refusal bytes r s (in_resolving script read a) (in_resolving other read_too b) =
     resolving.one_refusal other r s (subst (λ (t : List ScriptLine). names.IsRefused t r) (one_script bytes script other read read_too) a) b
 
--- a script has a meaning or is refused
-pub meaning_or_refusal : (bytes : List ℕ) (script : List ScriptLine) → IsScript bytes script → ((scope : Scope) × Resolves bytes scope) ⊎ ((r : Refused) × IsRefused bytes r)
-meaning_or_refusal bytes script read = elim (resolving.plan_or_refusal script (all_read bytes script read)) [
-  | inl planned ↦ inl (planned.1.0, record { script = script; read = read; means = planned.1.1 })
-  | inr refused ↦ inr (refused.0, in_resolving script read refused.1)
+-- bytes have a meaning or are refused
+pub meaning_or_refusal : (bytes : List ℕ) → ((scope : Scope) × Resolves bytes scope) ⊎ ((r : Refused) × IsRefused bytes r)
+meaning_or_refusal bytes = elim (script_or_refusal bytes) [
+  | inl read ↦ elim (resolving.plan_or_refusal read.0 (all_read bytes read.0 read.1)) [
+    | inl planned ↦ inl (planned.1.0, record { script = read.0; read = read.1; means = planned.1.1 })
+    | inr refused ↦ inr (refused.0, in_resolving read.0 read.1 refused.1)
+  ]
+  | inr refused ↦ inr (refused.0, in_reading refused.1)
 ]
 
 -- the first line that uses another procedure is one

@@ -9,7 +9,7 @@ use Rattle.mg_plain.specs.Plain.{Plain}
 use Rattle.mg_search.specs.Search.{plain, Opens}
 use Rattle.mg_session.specs.State.{State, SearchState, IsOf}
 use Rattle.mg_session.specs.Session.{IsAbsent, granted, new_search, cancelled, Grants, to_one_there, to_a_new_one, Cancels, gives_back}
-use Rattle.mg_session.specs.At.{IsAt, Replaces, with_new, IsReady, was_there, is_new}
+use Rattle.mg_session.specs.At.{IsSearchAt, Replaces, with_new, IsReady, was_there, is_new}
 
 -- a list is parted at a place
 record PartedAt (xs : List SearchState) (i : ℕ) (x : SearchState) : Type 0 where
@@ -25,10 +25,10 @@ parted_at (y ∷ xs) (suc i) x e =
     let rest = parted_at xs i x e in
     record { before = y ∷ rest.before; after = rest.after; parted = ap (λ vs. y ∷ vs) rest.parted; with = λ z. ap (λ vs. y ∷ vs) (rest.with z) }
 
-pub not_absent : (state : State) (question : ℕ) (procedure : Procedure) (place : ℕ) → IsAt state question procedure place → IsAbsent state question procedure → ⊥
+pub not_absent : (state : State) (question : ℕ) (procedure : Procedure) (place : ℕ) → IsSearchAt state question procedure place → IsAbsent state question procedure → ⊥
 not_absent state question procedure place at absent = all_at (λ (search : SearchState). IsOf question procedure search → ⊥) state.searches place at.search absent at.there at.is_of
 
-pub cancels : (old new : State) (question : ℕ) (procedure : Procedure) (place : ℕ) → IsAt old question procedure place →
+pub cancels : (old new : State) (question : ℕ) (procedure : Procedure) (place : ℕ) → IsSearchAt old question procedure place →
     ((x : SearchState) → slice_get old.searches place ≡ Some x → Replaces old place (old.purse + x.account.held) (cancelled x) new) → Cancels question procedure old new
 cancels old new question procedure place at gives =
     let x = at.search in

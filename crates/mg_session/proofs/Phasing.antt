@@ -13,9 +13,9 @@ use Rattle.mg_names.specs.Plan.{Plan}
 use Rattle.mg_certs.specs.Claim.{Fact}
 use Rattle.mg_certs.specs.Validity.{key_of}
 use Rattle.mg_search.specs.Search.{Search, plain, ask_of}
-use Rattle.mg_session.specs.State.{State, SearchState, accounts, ledger_of, row_of}
+use Rattle.mg_session.specs.State.{State, SearchState, accounts, ledger_of, row_taken}
 use Rattle.mg_session.specs.Run.{allow, Reads, Idles, KeepsVerdict, TakesPart, IsSettledTo, is_found, is_stopped, stays, Settle, Rounds, RunStep}
-use Rattle.mg_session.specs.StateOk.{EndsSo, Stands, StateOk}
+use Rattle.mg_session.specs.StateOk.{EndsSo, StandsBeside, StateOk}
 use Rattle.mg_session.specs.Built.{one_worker}
 use Rattle.mg_session.specs.At.{Replaces}
 use Rattle.mg_session.proofs.Ledger.{held_cons}
@@ -145,8 +145,8 @@ none_idles state (x ∷ xs) = (λ idles. never x.search idles.reads, none_idles 
     never : (search : Search) → Reads search → ⊥
     never (plain search) reads = reads
 
-ends_of : (log : List (Entry Fact)) (xs : List SearchState) → AllByRecursion (λ (x : SearchState). Stands log (row_of true x)) xs → AllByRecursion (EndsSoOf log) xs
-ends_of log xs h = all_imply (λ (x : SearchState). Stands log (row_of true x)) (EndsSoOf log) (λ x stands. stands.end) xs h
+ends_of : (log : List (Entry Fact)) (xs : List SearchState) → AllByRecursion (λ (x : SearchState). StandsBeside log (row_taken true x)) xs → AllByRecursion (EndsSoOf log) xs
+ends_of log xs h = all_imply (λ (x : SearchState). StandsBeside log (row_taken true x)) (EndsSoOf log) (λ x stands. stands.end) xs h
 
 module _ (old allowed : State) (bound : Option ℕ) (allowed_is : allowed ≡ record old { searches = map (allow bound) old.searches }) (some : (plan : Plan) × StateOk plan 1 old) where
   allowed_ok : StateOk some.0 1 allowed
@@ -155,7 +155,7 @@ module _ (old allowed : State) (bound : Option ℕ) (allowed_is : allowed ≡ re
   pub can_ledger : IsLedger (ledger_of allowed)
   can_ledger = allowed_ok.ledger
 
-  pub can_stand : AllByRecursion (λ (x : SearchState). Stands allowed.log (row_of true x)) allowed.searches
+  pub can_stand : AllByRecursion (λ (x : SearchState). StandsBeside allowed.log (row_taken true x)) allowed.searches
   can_stand = allowed_ok.stand
 
   pub can_settle : (ran : State) → Rounds one_worker TakesPart allowed ran → AllByRecursion (λ (x : SearchState). EndsSo ran.log x.search x.number x.end) ran.searches

@@ -15,11 +15,11 @@ use Rattle.mg_names.specs.Plan.{Plan}
 use Rattle.mg_certs.specs.Claim.{Fact}
 use Rattle.mg_certs.specs.Validity.{key_of}
 use Rattle.mg_plain.specs.Plain.{AcceptedBy, Publishes, IsPlain}
-use Rattle.mg_search.specs.Search.{Search, plain, ask_of, procedure_of, units_spent, InRow, HasPublished, is_open as goes_on}
-use Rattle.mg_session.specs.State.{State, SearchState, Params, row_of}
+use Rattle.mg_search.specs.Search.{Search, plain, ask_of, procedure_of, units_spent, InRow, HasPublished, TestsNumbered, is_open as goes_on}
+use Rattle.mg_session.specs.State.{State, SearchState, Params, row_taken}
 use Rattle.mg_session.specs.Run.{RunStep}
-use Rattle.mg_session.specs.StateOk.{CanEnd, EndsSo, Stands, StateOk}
-use Rattle.mg_session.specs.RunOk.{reach, IsOver, is_settled, is_open, IsRunTo}
+use Rattle.mg_session.specs.StateOk.{CanEnd, EndsSo, StandsBeside, StateOk}
+use Rattle.mg_session.specs.RunOk.{reach, LeavesUnits, is_settled, is_open, IsRunTo}
 use Rattle.mg_session.proofs.Events.{not_both}
 use Rattle.mg_session.proofs.States.{run_ok}
 use Rattle.mg_session.proofs.Runs.{run_is_ok}
@@ -32,7 +32,7 @@ pair_at R (z ∷ xs) (y ∷ ys) zero x h there = let same : z ≡ x = cc in (y, 
 pair_at R (z ∷ xs) (y ∷ ys) (suc i) x h there = pair_at R xs ys i x h.1 there
 
 -- a plain search is over only with a verdict
-plain_goes_on : (procedure : Procedure) (end : End) → IsPlain procedure → CanEnd end procedure → IsOver end → ⊥
+plain_goes_on : (procedure : Procedure) (end : End) → IsPlain procedure → CanEnd end procedure → LeavesUnits end → ⊥
 plain_goes_on Derive ends.Closed built can over = can
 plain_goes_on Derive ends.Idle built can over = can
 plain_goes_on Derive (ends.Full what count) built can over = can
@@ -72,7 +72,7 @@ none_to : (search : Search) → InRow search → goes_on search ≡ true → Non
 none_to (plain search) row on = row on
 
 -- where a run leaves a plain search: its Ask is settled, or it has spent its whole reach
-pub plain_ends : (bound : Option ℕ) (log : List (Entry Fact)) (x y : SearchState) → IsPlain (procedure_of x.search) → IsRunTo bound log x y → Stands log (row_of true y) → Settled key_of log (ask_of x.search) ⊎ ((Settled key_of log (ask_of x.search) → ⊥) × (y.account.spent ≡ reach bound x))
+pub plain_ends : (bound : Option ℕ) (log : List (Entry Fact)) (x y : SearchState) → IsPlain (procedure_of x.search) → IsRunTo bound log x y → StandsBeside log (row_taken true y) → Settled key_of log (ask_of x.search) ⊎ ((Settled key_of log (ask_of x.search) → ⊥) × (y.account.spent ≡ reach bound x))
 plain_ends bound log x y built ran stands =
     elim ran.ends [
       | is_settled s held ↦ inl s
@@ -82,7 +82,7 @@ plain_ends bound log x y built ran stands =
       ]
     ]
 
-first_settles : (bound : Option ℕ) (log : List (Entry Fact)) (x y : SearchState) (n : ℕ) → IsRunTo bound log x y → Stands log (row_of true y) → First (AcceptedBy (procedure_of x.search) (ask_of x.search)) n → n ≤ reach bound x → Settled key_of log (ask_of x.search)
+first_settles : (bound : Option ℕ) (log : List (Entry Fact)) (x y : SearchState) (n : ℕ) → IsRunTo bound log x y → StandsBeside log (row_taken true y) → First (AcceptedBy (procedure_of x.search) (ask_of x.search)) n → n ≤ reach bound x → Settled key_of log (ask_of x.search)
 first_settles bound log x y n ran stands first within =
     let built = accepted_plain (procedure_of x.search) (ask_of x.search) n first.holds in
     elim (plain_ends bound log x y built ran stands) [
@@ -101,8 +101,8 @@ module _ (plan : Plan) (params : Params) (bound : Option ℕ) (old new : State) 
   ran_to : (y : SearchState) × (slice_get new.searches i ≡ Some y) × IsRunTo bound new.log x y
   ran_to = pair_at (IsRunTo bound new.log) old.searches new.searches i x (run_is_ok plan params bound old new step ok).searches there
 
-  stands_there : Stands new.log (row_of true ran_to.0)
-  stands_there = all_at (λ (y : SearchState). Stands new.log (row_of true y)) new.searches i ran_to.0 (run_ok plan params.workers params bound old new refl step ok).stand ran_to.1
+  stands_there : StandsBeside new.log (row_taken true ran_to.0)
+  stands_there = all_at (λ (y : SearchState). StandsBeside new.log (row_taken true y)) new.searches i ran_to.0 (run_ok plan params.workers params bound old new refl step ok).stand ran_to.1
 
   -- where the reach is at least the first accepted number, the Ask is settled
   pub reaches : (n : ℕ) → First (AcceptedBy (procedure_of x.search) (ask_of x.search)) n → n ≤ reach bound x → Settled key_of new.log (ask_of x.search)
@@ -113,14 +113,14 @@ module _ (plan : Plan) (params : Params) (bound : Option ℕ) (old new : State) 
   spends_reach built unsettled =
       elim (plain_ends bound new.log x ran_to.0 built ran_to.2 stands_there) [ inl s ↦ absurd (unsettled s) | inr h ↦ (ran_to.0, ran_to.1, h.1) ]
 
-published_first : (search : Search) (records : List Fact) → HasPublished search records → (n : ℕ) × First (AcceptedBy (procedure_of search) (ask_of search)) n × Publishes (procedure_of search) (ask_of search) n records
-published_first (plain search) records h = (search.cursor, h.0, h.1)
+published_first : (search : Search) (records : List Fact) → TestsNumbered search → HasPublished search records → (n : ℕ) × First (AcceptedBy (procedure_of search) (ask_of search)) n × Publishes (procedure_of search) (ask_of search) n records
+published_first (plain search) records tests h = (search.cursor, h.0, h.1)
 
--- a search that keeps the verdict for its Ask has published the object with the least number
-pub keeps_first : (plan : Plan) (workers : ℕ) (state : State) (i : ℕ) (x : SearchState) (entry : Entry Fact) → StateOk plan workers state → slice_get state.searches i ≡ Some x → KeeperOf key_of state.log (ask_of x.search) entry → entry.search ≡ x.number →
+-- a search through numbered objects that keeps the verdict for its Ask has published the object with the least number
+pub keeps_first : (plan : Plan) (workers : ℕ) (state : State) (i : ℕ) (x : SearchState) (entry : Entry Fact) → StateOk plan workers state → slice_get state.searches i ≡ Some x → TestsNumbered x.search → KeeperOf key_of state.log (ask_of x.search) entry → entry.search ≡ x.number →
     (n : ℕ) × First (AcceptedBy (procedure_of x.search) (ask_of x.search)) n × Publishes (procedure_of x.search) (ask_of x.search) n entry.records
-keeps_first plan workers state i x entry ok there keeper same =
-    published_first x.search entry.records ((all_at (λ (y : SearchState). Stands state.log (row_of true y)) state.searches i x ok.stand there).published entry keeper same)
+keeps_first plan workers state i x entry ok there tests keeper same =
+    published_first x.search entry.records tests ((all_at (λ (y : SearchState). StandsBeside state.log (row_taken true y)) state.searches i x ok.stand there).published entry keeper same)
 
 -- a plain search that is over has a verdict
 over_settled : (log : List (Entry Fact)) (search : Search) (number : ℕ) (end : End) → IsPlain (procedure_of search) → EndsSo log search number end → goes_on search ≡ false → Settled key_of log (ask_of search)
@@ -134,8 +134,8 @@ over_settled log search number ends.Closed built h over = absurd (plain_goes_on 
 over_settled log search number (ends.Full what count) built h over = absurd (plain_goes_on (procedure_of search) (ends.Full what count) built h.can_end tt)
 
 module _ (plan : Plan) (workers : ℕ) (state : State) (i : ℕ) (x : SearchState) (ok : StateOk plan workers state) (there : slice_get state.searches i ≡ Some x) where
-  stands_at : Stands state.log (row_of true x)
-  stands_at = all_at (λ (y : SearchState). Stands state.log (row_of true y)) state.searches i x ok.stand there
+  stands_at : StandsBeside state.log (row_taken true x)
+  stands_at = all_at (λ (y : SearchState). StandsBeside state.log (row_taken true y)) state.searches i x ok.stand there
 
   pub settled_over : IsPlain (procedure_of x.search) → goes_on x.search ≡ false → Settled key_of state.log (ask_of x.search)
   settled_over built over = over_settled state.log x.search x.number x.end built stands_at.end over

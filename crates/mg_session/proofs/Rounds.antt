@@ -16,8 +16,8 @@ use Rattle.mg_certs.specs.Validity.{recording, IsValid, key_of}
 use Rattle.mg_search.specs.Search.{Search, searching, ask_of, procedure_of, HasPublished}
 use Rattle.mg_search.proofs.Turns.{sound, keeps_procedure}
 use Rattle.mg_session.specs.Run.{IsRow, Rounds}
-use Rattle.mg_session.specs.State.{State, SearchState, Params, asks, row_of, after_row}
-use Rattle.mg_session.specs.StateOk.{EndsSo, Stands, IsByWorker, AreNumbered}
+use Rattle.mg_session.specs.State.{State, SearchState, Params, asks, row_taken, after_row}
+use Rattle.mg_session.specs.StateOk.{EndsSo, StandsBeside, HasPass, of_worker, AreNumbered}
 use Rattle.mg_session.proofs.Lists.{all-append}
 use Rattle.mg_session.proofs.Events.{event_stands}
 use Rattle.mg_session.proofs.Asks.{rows_apart, rows_asked}
@@ -75,20 +75,20 @@ module _ (workers : ℕ) (IsSize : ℕ → ℕ → ℕ → ℕ → Type 0) (begi
       })
       (λ z _. goes_nowhere z) (others_all (λ (z : Row Search). Unit {0}) old.rows event.place event.row (all_there old.rows)))
 
-  event_by_worker : (old new : Running Fact Search) → Event recording searching workers IsSize begin old new → AllByRecursion (IsByWorker workers) old.log → AllByRecursion (IsByWorker workers) new.log
-  event_by_worker old new event h =
+  event_passes : (old new : Running Fact Search) → Event recording searching workers IsSize begin old new → AllByRecursion (HasPass workers) old.log → AllByRecursion (HasPass workers) new.log
+  event_passes old new event h =
       let entry = entry_of event.pass event.row event.outcome event.dropped in
-      subst (AllByRecursion (IsByWorker workers)) (sym event.log) (all-append (IsByWorker workers) old.log (entry ∷ []) h (record { from = event.pass_from; upto = event.pass_upto }, tt))
+      subst (AllByRecursion (HasPass workers)) (sym event.log) (all-append (HasPass workers) old.log (entry ∷ []) h (of_worker event.pass_from event.pass_upto, tt))
 
   -- what holds of a run as it goes on
   pub record Goes (first : List (Row Search)) (running : Running Fact Search) : Type 0 where
     pub apart : AreApart running.rows
-    pub stand : AllByRecursion (Stands running.log) running.rows
+    pub stand : AllByRecursion (StandsBeside running.log) running.rows
     pub goes : EachPair GoesTo first running.rows
-    pub by_workers : AllByRecursion (IsByWorker workers) running.log
+    pub passes : AllByRecursion (HasPass workers) running.log
 
-  funded_of : (log : List (Entry Fact)) (rows : List (Row Search)) → AllByRecursion (Stands log) rows → AreFunded rows
-  funded_of log rows h = all_imply (Stands log) (λ (row : Row Search). row.allowed ≤ row.held) (λ row stands. stands.allowed) rows h
+  funded_of : (log : List (Entry Fact)) (rows : List (Row Search)) → AllByRecursion (StandsBeside log) rows → AreFunded rows
+  funded_of log rows h = all_imply (StandsBeside log) (λ (row : Row Search). row.allowed ≤ row.held) (λ row stands. stands.allowed) rows h
 
   event_goes_on : (first : List (Row Search)) (old new : Running Fact Search) → Event recording searching workers IsSize begin old new → Goes first old → Goes first new
   event_goes_on first old new event h =
@@ -97,7 +97,7 @@ module _ (workers : ℕ) (IsSize : ℕ → ℕ → ℕ → ℕ → Type 0) (begi
         apart = apart_along old.rows new.rows (pairs_imply (Keeps searching) (λ (x y : Row Search). y.number ≡ x.number) (λ x y k. k.number) old.rows new.rows kept) h.apart;
         stand = event_stands workers IsSize begin old new event h.apart h.stand;
         goes = pairs_then GoesTo GoesTo GoesTo goes_then first old.rows new.rows h.goes (event_goes old new event);
-        by_workers = event_by_worker old new event h.by_workers;
+        passes = event_passes old new event h.passes;
       }
 
   pub leads_go : (first : List (Row Search)) (old : Running Fact Search) (states : List (Running Fact Search)) (new : Running Fact Search) → Leads recording searching workers IsSize begin old states new → Goes first old → Goes first new
@@ -105,11 +105,11 @@ module _ (workers : ℕ) (IsSize : ℕ → ℕ → ℕ → ℕ → Type 0) (begi
   leads_go first old (mid ∷ states) new h goes = leads_go first mid states new h.1 (event_goes_on first old mid h.0 goes)
 
 -- a search as a run takes it stands as it did
-pub as_row : (log : List (Entry Fact)) (x : SearchState) (left left' : Bool) → Stands log (row_of left x) → Stands log (row_of left' x)
+pub as_row : (log : List (Entry Fact)) (x : SearchState) (left left' : Bool) → StandsBeside log (row_taken left x) → StandsBeside log (row_taken left' x)
 as_row log x left left' h = record { in_row = h.in_row; units = h.units; counted = h.counted; allowed = h.allowed; end = h.end; published = h.published; read = h.read }
 
 -- a search as a run leaves it stands as its row does
-pub row_back : (log : List (Entry Fact)) (x : SearchState) (last : Row Search) → last.number ≡ x.number → Stands log last → Stands log (row_of true (after_row x last))
+pub row_back : (log : List (Entry Fact)) (x : SearchState) (last : Row Search) → last.number ≡ x.number → StandsBeside log last → StandsBeside log (row_taken true (after_row x last))
 row_back log x last same h = record {
   in_row = h.in_row;
   units = h.units;
@@ -135,34 +135,34 @@ ran_to Takes xs rows lasts is_rows kept gone =
 -- what a finished run makes of the searches of a state
 pub record Ran (workers : ℕ) (Takes : SearchState → Type 0) (xs : List SearchState) (last : Running Fact Search) : Type 0 where
   pub ran : EachPair (RanTo Takes) xs last.rows
-  pub stand : AllByRecursion (Stands last.log) last.rows
+  pub stand : AllByRecursion (StandsBeside last.log) last.rows
   pub legal : LegalFrom IsValid key_of (asks xs) [] last.log
-  pub by_workers : AllByRecursion (IsByWorker workers) last.log
+  pub passes : AllByRecursion (HasPass workers) last.log
 
 -- searches of a state as a run may take them
 pub record CanRun (workers : ℕ) (log : List (Entry Fact)) (xs : List SearchState) : Type 0 where
   pub numbered : AreNumbered 1 xs
-  pub stand : AllByRecursion (λ (x : SearchState). Stands log (row_of true x)) xs
+  pub stand : AllByRecursion (λ (x : SearchState). StandsBeside log (row_taken true x)) xs
   pub legal : LegalFrom IsValid key_of (asks xs) [] log
-  pub by_workers : AllByRecursion (IsByWorker workers) log
+  pub passes : AllByRecursion (HasPass workers) log
 
 pub rounds_run : (params : Params) (Takes : State → SearchState → Type 0) (old new : State) (rounds : Rounds params Takes old new) → CanRun params.workers old.log old.searches → Ran params.workers (Takes old) old.searches rounds.last
 rounds_run params Takes old new rounds can =
     let first = rounds.first in
-    let rows_stand : AllByRecursion (Stands old.log) first.rows = all_along (IsRow (Takes old)) (λ (x : SearchState). Stands old.log (row_of true x)) (Stands old.log)
-    (λ x row is h. subst (Stands old.log) (sym is.row_is) (as_row old.log x true row.left h)) old.searches first.rows rounds.rows can.stand in
+    let rows_stand : AllByRecursion (StandsBeside old.log) first.rows = all_along (IsRow (Takes old)) (λ (x : SearchState). StandsBeside old.log (row_taken true x)) (StandsBeside old.log)
+    (λ x row is h. subst (StandsBeside old.log) (sym is.row_is) (as_row old.log x true row.left h)) old.searches first.rows rounds.rows can.stand in
     let begins : Goes params.workers params.IsSize old.log first.rows first = record {
       apart = rows_apart (Takes old) 1 old.searches first.rows can.numbered rounds.rows;
-      stand = subst (λ (log : List (Entry Fact)). AllByRecursion (Stands log) first.rows) (sym rounds.log) rows_stand;
+      stand = subst (λ (log : List (Entry Fact)). AllByRecursion (StandsBeside log) first.rows) (sym rounds.log) rows_stand;
       goes = each_nowhere first.rows;
-      by_workers = subst (AllByRecursion (IsByWorker params.workers)) (sym rounds.log) can.by_workers;
+      passes = subst (AllByRecursion (HasPass params.workers)) (sym rounds.log) can.passes;
     } in
     let ends = leads_go params.workers params.IsSize old.log first.rows first rounds.runs.0 rounds.last rounds.runs.1 begins in
-    let funded = all_imply (Stands old.log) (λ (row : Row Search). row.allowed ≤ row.held) (λ row stands. stands.allowed) first.rows rows_stand in
+    let funded = all_imply (StandsBeside old.log) (λ (row : Row Search). row.allowed ≤ row.held) (λ row stands. stands.allowed) first.rows rows_stand in
     record {
       ran = ran_to (Takes old) old.searches first.rows rounds.last.rows rounds.rows (runs_keep recording searching params.workers params.IsSize old.log sound first rounds.last funded rounds.runs) ends.goes;
       stand = ends.stand;
       legal = runs_legal recording searching exclusive params.workers params.IsSize old.log sound (asks old.searches) first rounds.last funded (rows_asked (Takes old) old.searches first.rows can.numbered rounds.rows) rounds.runs
           (subst (λ (log : List (Entry Fact)). LegalFrom IsValid key_of (asks old.searches) [] log) (sym rounds.log) can.legal);
-      by_workers = ends.by_workers;
+      passes = ends.passes;
     }

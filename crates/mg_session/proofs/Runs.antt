@@ -17,10 +17,10 @@ use Rattle.mg_names.specs.Plan.{Plan}
 use Rattle.mg_certs.specs.Claim.{Fact}
 use Rattle.mg_certs.specs.Validity.{recording, key_of}
 use Rattle.mg_search.specs.Search.{Search, plain, searching, ask_of, procedure_of}
-use Rattle.mg_session.specs.State.{State, SearchState, Params, row_of, after_row}
+use Rattle.mg_session.specs.State.{State, SearchState, Params, row_taken, after_row}
 use Rattle.mg_session.specs.Run.{after_rows, within_bound, allow, CanGoOn, TakesPart, Core, Reads, FurtherBy, IsSettledTo, is_found, is_stopped, stays, Settle, RunStep}
-use Rattle.mg_session.specs.StateOk.{HasVerdict, Stands, StateOk}
-use Rattle.mg_session.specs.RunOk.{reach, IsOver, is_settled, is_open, IsRunTo, RunOk}
+use Rattle.mg_session.specs.StateOk.{HasVerdict, StandsBeside, StateOk}
+use Rattle.mg_session.specs.RunOk.{reach, LeavesUnits, is_settled, is_open, IsRunTo, RunOk}
 use Rattle.mg_session.proofs.Settling.{settled_grows}
 use Rattle.mg_session.proofs.Events.{not_both}
 use Rattle.mg_session.proofs.Rounds.{HasTurned, RanTo, rounds_run}
@@ -36,7 +36,7 @@ pub record CoreTo (bound : Option ℕ) (log : List (Entry Fact)) (x y : SearchSt
   pub rises : x.account.spent ≤ y.account.spent
   pub within : y.account.spent ≤ reach bound x
   pub total : y.account.held + y.account.spent ≡ x.account.held + x.account.spent
-  pub ends : (Settled key_of log (ask_of x.search) → ⊥) → (y.account.spent ≡ reach bound x) ⊎ IsOver y.end
+  pub ends : (Settled key_of log (ask_of x.search) → ⊥) → (y.account.spent ≡ reach bound x) ⊎ LeavesUnits y.end
 
 -- a search that holds nothing has spent its reach
 nothing_held : (bound : Option ℕ) (held : ℕ) → held ≡ 0 → within_bound bound held ≡ 0
@@ -44,7 +44,7 @@ nothing_held None held e = e
 nothing_held (Some n) held e = omega arith
 
 -- a row that left by a turn has a verdict or is over
-left_by : (dropped : Bool) (end : TurnEnd Fact) → leaves_at (end_after dropped end) ≡ true → HasVerdict (end_after dropped end) ⊎ IsOver (end_after dropped end)
+left_by : (dropped : Bool) (end : TurnEnd Fact) → leaves_at (end_after dropped end) ≡ true → HasVerdict (end_after dropped end) ⊎ LeavesUnits (end_after dropped end)
 left_by true end left = inl tt
 left_by false turns.More left = absurd (not_both false left refl)
 left_by false (turns.Found records) left = inl tt
@@ -54,7 +54,7 @@ left_by false (turns.Stopped seen) left = absurd (not_both false left refl)
 left_by false (turns.Full what count) left = inr tt
 
 -- a search that could go on, or is closed or full
-over_or_can : (end : End) → CanGoOn end ⊎ IsOver end
+over_or_can : (end : End) → CanGoOn end ⊎ LeavesUnits end
 over_or_can ends.Fresh = inl tt
 over_or_can ends.More = inl tt
 over_or_can ends.Found = inl tt
@@ -65,7 +65,7 @@ over_or_can (ends.Full what count) = inr tt
 over_or_can ends.Cancelled = inl tt
 
 module _ (bound : Option ℕ) (state : State) (log : List (Entry Fact)) (x : SearchState) (last : Row Search) (ran : RanTo (TakesPart state) (allow bound x) last) where
-  first_is : ran.first ≡ row_of ran.first.left (allow bound x)
+  first_is : ran.first ≡ row_taken ran.first.left (allow bound x)
   first_is = ran.is_row.row_is
 
   first_spent : ran.first.spent ≡ x.account.spent
@@ -91,7 +91,7 @@ module _ (bound : Option ℕ) (state : State) (log : List (Entry Fact)) (x : Sea
   spent_all none = omega (arith, spent_and_allowed)
 
   -- a search that sat out
-  sat_out : ran.first.left ≡ true → (Settled key_of state.log (ask_of x.search) → ⊥) → (last.spent ≡ reach bound x) ⊎ IsOver last.end
+  sat_out : ran.first.left ≡ true → (Settled key_of state.log (ask_of x.search) → ⊥) → (last.spent ≡ reach bound x) ⊎ LeavesUnits last.end
   sat_out out unsettled =
       let same : last ≡ ran.first = ran.keeps.stays_left out in
       let spent : last.spent ≡ x.account.spent = ap (λ (r : Row Search). r.spent) same ∙ first_spent in
@@ -99,30 +99,30 @@ module _ (bound : Option ℕ) (state : State) (log : List (Entry Fact)) (x : Sea
       elim (cases_lt 0 x.account.held) [
         | inl some ↦ elim (over_or_can x.end) [
           | inl can ↦ absurd (not_both ran.first.left out (ran.is_row.takes.1 (record { holds = some; unsettled = unsettled; can_go_on = can })))
-          | inr over ↦ inr (subst IsOver (sym end) over)
+          | inr over ↦ inr (subst LeavesUnits (sym end) over)
         ]
         | inr none ↦ inl (let nothing : x.account.held ≡ 0 = omega arith in omega (arith, nothing_held bound x.account.held nothing))
       ]
 
   -- a search that took part and made no turn, or that made one
-  took_part : ran.first.left ≡ false → Stands log last → (last.left ≡ true) ⊎ (last.allowed ≡ 0) → (last ≡ ran.first) ⊎ HasTurned last → (Settled key_of log (ask_of last.search) → ⊥) → (last.spent ≡ reach bound x) ⊎ IsOver last.end
+  took_part : ran.first.left ≡ false → StandsBeside log last → (last.left ≡ true) ⊎ (last.allowed ≡ 0) → (last ≡ ran.first) ⊎ HasTurned last → (Settled key_of log (ask_of last.search) → ⊥) → (last.spent ≡ reach bound x) ⊎ LeavesUnits last.end
   took_part took stands (inr none) turned unsettled = inl (spent_all none)
   took_part took stands (inl left) (inl same) unsettled = absurd (not_both ran.first.left (ap (λ (r : Row Search). r.left) (sym same) ∙ left) took)
   took_part took stands (inl left) (inr turned) unsettled =
       elim (left_by turned.dropped turned.last (ap leaves_at (sym turned.end) ∙ (sym turned.left ∙ left))) [
         | inl verdict ↦ absurd (unsettled (stands.end.verdict (subst HasVerdict (sym turned.end) verdict)))
-        | inr over ↦ inr (subst IsOver (sym turned.end) over)
+        | inr over ↦ inr (subst LeavesUnits (sym turned.end) over)
       ]
 
   last_ask : ask_of last.search ≡ ask_of x.search
   last_ask = ran.keeps.key ∙ ap (λ (r : Row Search). ask_of r.search) first_is
 
-  either : (left : Bool) → ran.first.left ≡ left → Stands log last → (last.left ≡ true) ⊎ (last.allowed ≡ 0) → Begins state.log log → (Settled key_of log (ask_of x.search) → ⊥) → (last.spent ≡ reach bound x) ⊎ IsOver last.end
+  either : (left : Bool) → ran.first.left ≡ left → StandsBeside log last → (last.left ≡ true) ⊎ (last.allowed ≡ 0) → Begins state.log log → (Settled key_of log (ask_of x.search) → ⊥) → (last.spent ≡ reach bound x) ⊎ LeavesUnits last.end
   either true out stands finished begins unsettled =
       sat_out out (λ s. unsettled (subst (λ (l : List (Entry Fact)). Settled key_of l (ask_of x.search)) (sym begins.1) (settled_grows key_of state.log begins.0 (ask_of x.search) s)))
   either false took stands finished begins unsettled = took_part took stands finished ran.goes.turned (λ s. unsettled (subst (Settled key_of log) last_ask s))
 
-  pub core_to : Stands log last → (last.left ≡ true) ⊎ (last.allowed ≡ 0) → Begins state.log log → CoreTo bound log x (after_row (allow bound x) last)
+  pub core_to : StandsBeside log last → (last.left ≡ true) ⊎ (last.allowed ≡ 0) → Begins state.log log → CoreTo bound log x (after_row (allow bound x) last)
   core_to stands finished begins =
       let balance = ran.keeps.balance in
       let rises = ran.keeps.rises in
@@ -138,7 +138,7 @@ module _ (bound : Option ℕ) (state : State) (log : List (Entry Fact)) (x : Sea
         ends = either ran.first.left refl stands finished begins;
       }
 
-all_core_to : (bound : Option ℕ) (state : State) (log : List (Entry Fact)) (xs : List SearchState) (lasts : List (Row Search)) → EachPair (RanTo (TakesPart state)) (map (allow bound) xs) lasts → AllByRecursion (Stands log) lasts →
+all_core_to : (bound : Option ℕ) (state : State) (log : List (Entry Fact)) (xs : List SearchState) (lasts : List (Row Search)) → EachPair (RanTo (TakesPart state)) (map (allow bound) xs) lasts → AllByRecursion (StandsBeside log) lasts →
     AllByRecursion (λ (row : Row Search). (row.left ≡ true) ⊎ (row.allowed ≡ 0)) lasts → Begins state.log log → EachPair (CoreTo bound log) xs (after_rows (map (allow bound) xs) lasts)
 all_core_to bound state log [] [] ran stands finished begins = tt
 all_core_to bound state log [] (last ∷ lasts) ran stands finished begins = absurd ran
@@ -190,7 +190,7 @@ module _ (plan : Plan) where
   -- no search reads models yet, so none is run again
   no_further : (params : Params) (old : State) (states : List State) (new : State) → FurtherBy plan params old states new → new ≡ old
   no_further params old [] new h = h.1
-  no_further params old (next ∷ states) new h = absurd (no_reads h.0.search h.1.reads)
+  no_further params old (next ∷ states) new h = absurd (no_reads h.0.search.search h.0.idles.reads)
 
   -- the rounds of a run
   pub record CoreOk (bound : Option ℕ) (old new : State) : Type 0 where
@@ -203,7 +203,7 @@ module _ (plan : Plan) where
       let allowed : State = record old { searches = map (allow bound) old.searches } in
       let rounds = core.rounds in
       let can = allow_ok plan params.workers bound old ok in
-      let run = rounds_run params TakesPart allowed new rounds (record { numbered = can.numbered; stand = can.stand; legal = can.legal; by_workers = can.by_workers }) in
+      let run = rounds_run params TakesPart allowed new rounds (record { numbered = can.numbered; stand = can.stand; legal = can.legal; passes = can.passes }) in
       let grows = runs_begins recording searching params.workers params.IsSize old.log rounds.first rounds.last rounds.runs in
       let begins : Begins old.log rounds.last.log = subst (λ (l : List (Entry Fact)). Begins l rounds.last.log) rounds.log grows in
       let ran : CoreOk bound old (record allowed { searches = after_rows allowed.searches rounds.last.rows; log = rounds.last.log }) = record {

@@ -20,7 +20,7 @@ use Rattle.mg_session.specs.Run.{IsSettled, CanGoOn, TakesPart, IsSettledTo, is_
 use Rattle.mg_session.specs.Session.{IsAbsent, granted, cancelled, end_granted, end_cancelled, new_search}
 use Rattle.mg_session.specs.StateOk.{EndsSo}
 use Rattle.mg_session.specs.Kept.{seen, all_seen, HaveCells, state_of}
-use Rattle.mg_session.specs.At.{IsKeptFor, IsAt, Replaces, with_new, MayRun}
+use Rattle.mg_session.specs.At.{IsKeptFor, IsSearchAt, Replaces, with_new, MayRun}
 use Rattle.mg_session.specs.declared.state.Kept.{Kept}
 
 pub length_seen : (n : ℕ) (ks : List Kept) (cs : List Account) → length ks ≡ length cs → length (all_seen n ks cs) ≡ length ks
@@ -134,12 +134,12 @@ module _ (s : State) (ledger : LedgerState) (ks : List Kept) (log : List (Entry 
   absent_if question procedure among None e h = absent question procedure (subst (AllByRecursion (λ kept. IsKeptFor question procedure kept → ⊥)) e h)
   absent_if question procedure among (Some place) e h = tt
 
-  pub present : (question : ℕ) (procedure : Procedure) (place : ℕ) (kept : Kept) → slice_get ks place ≡ Some kept → IsKeptFor question procedure kept → IsAt s question procedure place
+  pub present : (question : ℕ) (procedure : Procedure) (place : ℕ) (kept : Kept) → slice_get ks place ≡ Some kept → IsKeptFor question procedure kept → IsSearchAt s question procedure place
   present question procedure place kept there h =
       let found = there_seen 1 ks ledger.cells place kept cells.each there in
-      subst (λ (v : State). IsAt v question procedure place) is (record { search = seen found.0 kept found.1; there = found.2; is_of = record { of_question = h.of_question; of_procedure = h.of_procedure } })
+      subst (λ (v : State). IsSearchAt v question procedure place) is (record { search = seen found.0 kept found.1; there = found.2; is_of = record { of_question = h.of_question; of_procedure = h.of_procedure } })
 
-  pub present_if : (question : ℕ) (procedure : Procedure) (among : List Kept) (found : Option ℕ) → among ≡ ks → IfSome found (λ place. (kept : Kept) × (slice_get among place ≡ Some kept) × IsKeptFor question procedure kept) → IfSome found (λ place. IsAt s question procedure place)
+  pub present_if : (question : ℕ) (procedure : Procedure) (among : List Kept) (found : Option ℕ) → among ≡ ks → IfSome found (λ place. (kept : Kept) × (slice_get among place ≡ Some kept) × IsKeptFor question procedure kept) → IfSome found (λ place. IsSearchAt s question procedure place)
   present_if question procedure among None e h = tt
   present_if question procedure among (Some place) e h = present question procedure place h.0 (subst (λ ys. slice_get ys place ≡ Some h.0) e h.1) h.2
 

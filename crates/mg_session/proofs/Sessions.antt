@@ -24,7 +24,7 @@ use Rattle.mg_session.proofs.States.{empty_ok, after_ok}
 use Rattle.mg_session.proofs.Runs.{run_is_ok}
 use Rattle.mg_session.proofs.Firsts.{drop_at}
 
-pub stepped : (plan : Plan) (p q : PlanStep) (old new : State) (text : List ℕ) → p ≡ q → After plan one_worker (step_of q) old new → ((shown : List ℕ) → TextOf plan shown (step_of q) old text shown) → IsStepped plan (step_of p) old new text
+pub stepped : (plan : Plan) (p q : PlanStep) (old new : State) (text : List ℕ) → p ≡ q → After plan one_worker (step_of q) old new → ((shown : List ℕ) → TextOf plan one_worker shown (step_of q) old text shown) → IsStepped plan (step_of p) old new text
 stepped plan p q old new text e after text_is = subst (λ s. IsStepped plan (step_of s) old new text) (sym e) (record { after = after; text_is = text_is })
 
 -- after so many steps there are no more searches, and none was granted more than 2^62 units at each
@@ -109,7 +109,7 @@ pub record Going (plan : Plan) (steps : List PlanStep) (i : ℕ) (state : State)
   pub are : map step_of steps ≡ plan.steps
   pub ok : StateOk plan 1 state
   pub few : Few i state
-  pub prints : (later : List State) (texts : List (List ℕ)) → Continues plan one_worker state (map step_of (drop i steps)) later → Texts plan [] (map step_of (drop i steps)) (state ∷ later) texts →
+  pub prints : (later : List State) (texts : List (List ℕ)) → Continues plan one_worker state (map step_of (drop i steps)) later → Texts plan one_worker [] (map step_of (drop i steps)) (state ∷ later) texts →
       Prints plan one_worker (output ++ flat_map (λ text. text) texts)
 
 pub going_begins : (plan : Plan) (steps : List PlanStep) (state : State) (output : List ℕ) → map step_of steps ≡ plan.steps → state ≡ empty → output ≡ [] → Going plan steps 0 state output
@@ -121,7 +121,7 @@ going_begins plan steps state output are e o = record {
     states = state ∷ later;
     session = (e, subst (λ ss. Continues plan one_worker state ss later) are continues);
     texts = texts;
-    texts_are = subst (λ ss. Texts plan [] ss (state ∷ later) texts) are are_texts;
+    texts_are = subst (λ ss. Texts plan one_worker [] ss (state ∷ later) texts) are are_texts;
     output_is = ap (λ out. out ++ flat_map (λ text. text) texts) o;
   };
 }
@@ -168,7 +168,7 @@ module _ (plan : Plan) (steps : List PlanStep) (i : ℕ) (state : State) (output
         few = few_next plan i state new h.few (step_of (get_or steps i d)) (going_step d is_plan within) h.ok is_stepped.after;
         prints = λ later texts continues are_texts.
             let all = h.prints (new ∷ later) (text ∷ texts) (subst (λ ss. Continues plan one_worker state (map step_of ss) (new ∷ later)) (sym here) (is_stepped.after, continues))
-            (subst (λ ss. Texts plan [] (map step_of ss) (state ∷ new ∷ later) (text ∷ texts)) (sym here) ([], is_stepped.text_is [], are_texts)) in
+            (subst (λ ss. Texts plan one_worker [] (map step_of ss) (state ∷ new ∷ later) (text ∷ texts)) (sym here) ([], is_stepped.text_is [], are_texts)) in
             subst (Prints plan one_worker) (sym (ap (λ out. out ++ flat_map (λ t. t) texts) output_is ∙ append_assoc output text (flat_map (λ t. t) texts))) all;
       }
 
@@ -176,7 +176,7 @@ module _ (plan : Plan) (steps : List PlanStep) (i : ℕ) (state : State) (output
   going_done over =
       let none : drop i steps ≡ [] = nothing steps i over in
       subst (Prints plan one_worker) (append-nil output)
-      (h.prints [] [] (subst (λ ss. Continues plan one_worker state (map step_of ss) []) (sym none) refl) (subst (λ ss. Texts plan [] (map step_of ss) (state ∷ []) []) (sym none) refl))
+      (h.prints [] [] (subst (λ ss. Continues plan one_worker state (map step_of ss) []) (sym none) refl) (subst (λ ss. Texts plan one_worker [] (map step_of ss) (state ∷ []) []) (sym none) refl))
     where
       nothing : (ss : List PlanStep) (n : ℕ) → length ss ≤ n → drop n ss ≡ []
       nothing [] zero w = refl

@@ -11,7 +11,7 @@ use Rattle.mg_report.specs.declared.blocks.SearchLine.{SearchLine as Line}
 use Rattle.mg_report.specs.declared.blocks.QuestionBlock.{QuestionBlock as Block}
 use Rattle.mg_session.specs.State.{State, SearchState}
 use Rattle.mg_session.specs.Output.{procedure_place, line_of, IsBlock, AreBlocks}
-use Rattle.mg_session.specs.Lookups.{IsAt}
+use Rattle.mg_session.specs.Lookups.{ReadsAt}
 use Rattle.mg_session.proofs.Looked.{drop_at}
 
 -- one question more
@@ -52,7 +52,7 @@ own_passed question xs i x there other =
     ∙ ap (λ b. map line_of (cond b (x ∷ filter (λ search. search.question == question) (drop (i + 1) xs)) (filter (λ search. search.question == question) (drop (i + 1) xs)))) other)
 
 -- the line of one search more, which is the question's
-pub own_pushed : (question number : ℕ) (state : State) (i : ℕ) (lines new : List Line) (line : Line) → new ≡ lines ++ line ∷ [] → number ≡ question → IsAt (λ search. search.question) state i number → IsAt line_of state i (search_of line) →
+pub own_pushed : (question number : ℕ) (state : State) (i : ℕ) (lines new : List Line) (line : Line) → new ≡ lines ++ line ∷ [] → number ≡ question → ReadsAt (λ search. search.question) state i number → ReadsAt line_of state i (search_of line) →
     map search_of new ++ own_from question state.searches (i + 1) ≡ map search_of lines ++ own_from question state.searches i
 own_pushed question number state i lines new line pushed same asked shown =
     let xs = state.searches in
@@ -63,7 +63,7 @@ own_pushed question number state i lines new line pushed same asked shown =
     ap (λ ys. map search_of ys ++ own_from question xs (i + 1)) pushed ∙ ap (λ ys. ys ++ own_from question xs (i + 1)) (map-append search_of lines (line ∷ []))
     ∙ ap (λ y. (map search_of lines ++ y ∷ []) ++ own_from question xs (i + 1)) last ∙ own_taken question xs i x (map search_of lines) asked.there own
 
-pub own_left : (question number : ℕ) (state : State) (i : ℕ) (lines new : List Line) → new ≡ lines → number ≢ question → IsAt (λ search. search.question) state i number →
+pub own_left : (question number : ℕ) (state : State) (i : ℕ) (lines new : List Line) → new ≡ lines → number ≢ question → ReadsAt (λ search. search.question) state i number →
     map search_of new ++ own_from question state.searches (i + 1) ≡ map search_of lines ++ own_from question state.searches i
 own_left question number state i lines new same other asked =
     let x = asked.search in

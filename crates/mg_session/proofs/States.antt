@@ -21,10 +21,10 @@ use Rattle.mg_certs.specs.Validity.{IsValid, key_of}
 use Rattle.mg_plain.specs.Plain.{Plain}
 use Rattle.mg_search.specs.Search.{Search, plain, ask_of, procedure_of, is_open, Opens}
 use Rattle.mg_search.proofs.Turns.{opens_in_row, opens_applies}
-use Rattle.mg_session.specs.State.{State, SearchState, Params, IsOf, empty, accounts, ledger_of, asks, give_back, ended, row_of, after_row}
+use Rattle.mg_session.specs.State.{State, SearchState, Params, IsOf, empty, accounts, ledger_of, asks, give_back, ended, row_taken, after_row}
 use Rattle.mg_session.specs.Run.{KeepsVerdict, after_rows, Rounds, within_bound, allow, TakesPart, Core, Idles, FurtherBy, IsSettledTo, is_found, is_stopped, stays, Settle, RunStep}
 use Rattle.mg_session.specs.Session.{IsAbsent, granted, new_search, cancelled, end_granted, end_cancelled, Grants, to_one_there, to_a_new_one, Cancels, gives_back, is_refused, After, Continues, Session}
-use Rattle.mg_session.specs.StateOk.{IsOpenAt, EndsSo, Stands, IsAsked, AreNumbered, AreOther, AreSingle, IsByWorker, StateOk}
+use Rattle.mg_session.specs.StateOk.{IsOpenAt, EndsSo, StandsBeside, IsAsked, AreNumbered, AreOther, AreSingle, HasPass, StateOk}
 use Rattle.mg_session.proofs.Lists.{all-append, all-front, all-back}
 use Rattle.mg_session.proofs.Ledger.{held_there, spent_there, AreBalanced, as_accounts, as_searches, totals_same, spent_same}
 use Rattle.mg_session.proofs.Asks.{AsksSame, legal_more, legal_same, asks_front, legal_within, no_units_above, no_keeper_above}
@@ -67,24 +67,24 @@ module _ (plan : Plan) (workers : ℕ) where
 
   -- other units and ends in the same searches, beside the same log
   pub same_ok : (old new : State) → StateOk plan workers old → new.log ≡ old.log → EachPair SameSearch old.searches new.searches → IsLedger (ledger_of new) →
-      AllByRecursion (λ search. Stands old.log (row_of true search)) new.searches → StateOk plan workers new
+      AllByRecursion (λ search. StandsBeside old.log (row_taken true search)) new.searches → StateOk plan workers new
   same_ok old new ok log same ledger stand = record {
     ledger = ledger;
     numbered = numbered_same 1 old.searches new.searches same ok.numbered;
     single = single_same old.searches new.searches same ok.single;
     asked = asked_same old.searches new.searches same ok.asked;
-    stand = subst (λ (l : List (Entry Fact)). AllByRecursion (λ search. Stands l (row_of true search)) new.searches) (sym log) stand;
+    stand = subst (λ (l : List (Entry Fact)). AllByRecursion (λ search. StandsBeside l (row_taken true search)) new.searches) (sym log) stand;
     legal = subst (λ (l : List (Entry Fact)). LegalFrom IsValid key_of (asks new.searches) [] l) (sym log) (legal_same old.searches new.searches old.log (same_asks old.searches new.searches same) ok.legal);
-    by_workers = subst (AllByRecursion (IsByWorker workers)) (sym log) ok.by_workers;
+    passes = subst (AllByRecursion (HasPass workers)) (sym log) ok.passes;
   }
 
   can_run : (state : State) → StateOk plan workers state → CanRun workers state.log state.searches
-  can_run state ok = record { numbered = ok.numbered; stand = ok.stand; legal = ok.legal; by_workers = ok.by_workers }
+  can_run state ok = record { numbered = ok.numbered; stand = ok.stand; legal = ok.legal; passes = ok.passes }
 
   -- the searches as a run leaves them
   after_same : (x : SearchState) (Takes : SearchState → Type 0) (last : Row Search) → RanTo Takes x last → SameSearch x (after_row x last)
   after_same x Takes last ran =
-      let first : ran.first ≡ row_of ran.first.left x = ran.is_row.row_is in
+      let first : ran.first ≡ row_taken ran.first.left x = ran.is_row.row_is in
       record {
         question = refl;
         number = refl;
@@ -118,7 +118,7 @@ module _ (plan : Plan) (workers : ℕ) where
       let total = after_total x Takes last h.0 in
       let balance = b.0 in (omega arith, after_balanced Takes xs lasts h.1 b.1)
 
-  after_stand : (log : List (Entry Fact)) (Takes : SearchState → Type 0) (xs : List SearchState) (lasts : List (Row Search)) → EachPair (RanTo Takes) xs lasts → AllByRecursion (Stands log) lasts → AllByRecursion (λ (x : SearchState). Stands log (row_of true x)) (after_rows xs lasts)
+  after_stand : (log : List (Entry Fact)) (Takes : SearchState → Type 0) (xs : List SearchState) (lasts : List (Row Search)) → EachPair (RanTo Takes) xs lasts → AllByRecursion (StandsBeside log) lasts → AllByRecursion (λ (x : SearchState). StandsBeside log (row_taken true x)) (after_rows xs lasts)
   after_stand log Takes [] [] h s = tt
   after_stand log Takes [] (last ∷ lasts) h s = absurd h
   after_stand log Takes (x ∷ xs) [] h s = absurd h
@@ -143,7 +143,7 @@ module _ (plan : Plan) (workers : ℕ) where
         asked = asked_same old.searches searches kept ok.asked;
         stand = after_stand rounds.last.log (Takes old) old.searches lasts run.ran run.stand;
         legal = legal_same old.searches searches rounds.last.log (same_asks old.searches searches kept) run.legal;
-        by_workers = subst (λ w. AllByRecursion (IsByWorker w) rounds.last.log) same run.by_workers;
+        passes = subst (λ w. AllByRecursion (HasPass w) rounds.last.log) same run.passes;
       } in
       subst (StateOk plan workers) (sym rounds.new_is) after
 
@@ -160,7 +160,7 @@ module _ (plan : Plan) (workers : ℕ) where
   allow_accounts bound [] = refl
   allow_accounts bound (x ∷ xs) = ap (λ cells. x.account ∷ cells) (allow_accounts bound xs)
 
-  allow_stand : (log : List (Entry Fact)) (bound : Option ℕ) (xs : List SearchState) → AllByRecursion (λ (x : SearchState). Stands log (row_of true x)) xs → AllByRecursion (λ (x : SearchState). Stands log (row_of true x)) (map (allow bound) xs)
+  allow_stand : (log : List (Entry Fact)) (bound : Option ℕ) (xs : List SearchState) → AllByRecursion (λ (x : SearchState). StandsBeside log (row_taken true x)) xs → AllByRecursion (λ (x : SearchState). StandsBeside log (row_taken true x)) (map (allow bound) xs)
   allow_stand log bound [] h = tt
   allow_stand log bound (x ∷ xs) h = (
     record { in_row = h.0.in_row; units = h.0.units; counted = h.0.counted; allowed = bound_within bound x.account.held; end = h.0.end; published = h.0.published; read = h.0.read },
@@ -179,7 +179,7 @@ module _ (plan : Plan) (workers : ℕ) where
   further_ok : (params : Params) (old : State) (states : List State) (new : State) → params.workers ≡ workers → FurtherBy plan params old states new → StateOk plan workers old → StateOk plan workers new
   further_ok params old [] new same h ok = subst (StateOk plan workers) (sym h.1) ok
   further_ok params old (next ∷ states) new same h ok =
-      further_ok params next states new same h.5 (subst (StateOk plan workers) (sym h.4) (rounds_ok params Idles old h.2 same h.3 ok))
+      further_ok params next states new same h.4 (subst (StateOk plan workers) (sym h.3) (rounds_ok params Idles old h.1 same h.2 ok))
 
   -- settling
   settled_same : (state : State) (x x' : SearchState) → IsSettledTo state x x' → SameSearch x x'
@@ -200,10 +200,10 @@ module _ (plan : Plan) (workers : ℕ) where
   settled_balanced state x x' (is_stopped s k e) b = subst (λ (y : SearchState). Balanced y.account) (sym e) (paid x ends.Stopped b)
   settled_balanced state x x' (stays s e) b = subst (λ (y : SearchState). Balanced y.account) (sym e) b
 
-  with_end : (log : List (Entry Fact)) (x : SearchState) (end : End) → Stands log (row_of true x) → EndsSo log x.search x.number end → Stands log (row_of true (ended end (give_back x)))
+  with_end : (log : List (Entry Fact)) (x : SearchState) (end : End) → StandsBeside log (row_taken true x) → EndsSo log x.search x.number end → StandsBeside log (row_taken true (ended end (give_back x)))
   with_end log x end h e = record { in_row = h.in_row; units = h.units; counted = h.counted; allowed = omega arith; end = e; published = h.published; read = h.read }
 
-  found_now : (log : List (Entry Fact)) (x : SearchState) → Stands log (row_of true x) → Settled key_of log (ask_of x.search) → KeepsVerdict log (ask_of x.search) x.number → EndsSo log x.search x.number ends.Found
+  found_now : (log : List (Entry Fact)) (x : SearchState) → StandsBeside log (row_taken true x) → Settled key_of log (ask_of x.search) → KeepsVerdict log (ask_of x.search) x.number → EndsSo log x.search x.number ends.Found
   found_now log x h settled keeper = record {
     found = (λ e. keeper, λ k. refl);
     verdict = λ v. settled;
@@ -214,10 +214,10 @@ module _ (plan : Plan) (workers : ℕ) where
   stopped_now : (log : List (Entry Fact)) (x : SearchState) → Settled key_of log (ask_of x.search) → (KeepsVerdict log (ask_of x.search) x.number → ⊥) → EndsSo log x.search x.number ends.Stopped
   stopped_now log x settled none = record { found = (λ e. absurd (cc e), λ k. absurd (none k)); verdict = λ v. settled; openness = tt; can_end = tt }
 
-  settled_stands : (state : State) (x x' : SearchState) → IsSettledTo state x x' → Stands state.log (row_of true x) → Stands state.log (row_of true x')
-  settled_stands state x x' (is_found s k e) h = subst (λ (y : SearchState). Stands state.log (row_of true y)) (sym e) (with_end state.log x ends.Found h (found_now state.log x h s k))
-  settled_stands state x x' (is_stopped s k e) h = subst (λ (y : SearchState). Stands state.log (row_of true y)) (sym e) (with_end state.log x ends.Stopped h (stopped_now state.log x s k))
-  settled_stands state x x' (stays s e) h = subst (λ (y : SearchState). Stands state.log (row_of true y)) (sym e) h
+  settled_stands : (state : State) (x x' : SearchState) → IsSettledTo state x x' → StandsBeside state.log (row_taken true x) → StandsBeside state.log (row_taken true x')
+  settled_stands state x x' (is_found s k e) h = subst (λ (y : SearchState). StandsBeside state.log (row_taken true y)) (sym e) (with_end state.log x ends.Found h (found_now state.log x h s k))
+  settled_stands state x x' (is_stopped s k e) h = subst (λ (y : SearchState). StandsBeside state.log (row_taken true y)) (sym e) (with_end state.log x ends.Stopped h (stopped_now state.log x s k))
+  settled_stands state x x' (stays s e) h = subst (λ (y : SearchState). StandsBeside state.log (row_taken true y)) (sym e) h
 
   settle_ok : (old new : State) → Settle old new → StateOk plan workers old → StateOk plan workers new
   settle_ok old new settle ok =
@@ -229,7 +229,7 @@ module _ (plan : Plan) (workers : ℕ) where
       same_ok old (record old { purse = new.purse; searches = new.searches }) ok refl
       (pairs_imply (IsSettledTo old) SameSearch (settled_same old) old.searches new.searches settle.searches)
       (record { bounded = ok.ledger.bounded; balance = record { each = as_accounts new.searches balanced; whole = omega arith } })
-      (all_along (IsSettledTo old) (λ (x : SearchState). Stands old.log (row_of true x)) (λ (x : SearchState). Stands old.log (row_of true x)) (settled_stands old) old.searches new.searches settle.searches ok.stand) in
+      (all_along (IsSettledTo old) (λ (x : SearchState). StandsBeside old.log (row_taken true x)) (λ (x : SearchState). StandsBeside old.log (row_taken true x)) (settled_stands old) old.searches new.searches settle.searches ok.stand) in
       subst (StateOk plan workers) (sym settle.new_is) after
 
   -- the states of a run step
@@ -258,7 +258,7 @@ module _ (plan : Plan) (workers : ℕ) where
 
   -- a state with one search, and the purse, changed
   one_ok : (old : State) (before after : List SearchState) (x y : SearchState) (purse : ℕ) → old.searches ≡ before ++ x ∷ after → StateOk plan workers old → SameSearch x y →
-      purse + y.account.held ≡ old.purse + x.account.held → y.account.spent ≡ x.account.spent → (Balanced x.account → Balanced y.account) → (Stands old.log (row_of true x) → Stands old.log (row_of true y)) →
+      purse + y.account.held ≡ old.purse + x.account.held → y.account.spent ≡ x.account.spent → (Balanced x.account → Balanced y.account) → (StandsBeside old.log (row_taken true x) → StandsBeside old.log (row_taken true y)) →
       StateOk plan workers (record old { purse = purse; searches = before ++ y ∷ after })
   one_ok old before after x y purse place ok same units spent balanced stands =
       let searches = before ++ y ∷ after in
@@ -273,7 +273,7 @@ module _ (plan : Plan) (workers : ℕ) where
           whole = omega (arith, held_there before after y, spent_there before after y);
         };
       })
-      (replaced (λ (z : SearchState). Stands old.log (row_of true z)) before after x y (subst (AllByRecursion (λ (z : SearchState). Stands old.log (row_of true z))) place ok.stand) stands)
+      (replaced (λ (z : SearchState). StandsBeside old.log (row_taken true z)) before after x y (subst (AllByRecursion (λ (z : SearchState). StandsBeside old.log (row_taken true z))) place ok.stand) stands)
 
   end_granted_so : (log : List (Entry Fact)) (search : Search) (number : ℕ) (end : End) → EndsSo log search number end → EndsSo log search number (end_granted end)
   end_granted_so log search number ends.Fresh h = h
@@ -301,16 +301,16 @@ module _ (plan : Plan) (workers : ℕ) where
   end_cancelled_so log search number ends.Stopped h = h
   end_cancelled_so log search number (ends.Full what count) h = h
 
-  granted_stands : (log : List (Entry Fact)) (units : ℕ) (x : SearchState) → Stands log (row_of true x) → Stands log (row_of true (granted units x))
+  granted_stands : (log : List (Entry Fact)) (units : ℕ) (x : SearchState) → StandsBeside log (row_taken true x) → StandsBeside log (row_taken true (granted units x))
   granted_stands log units x h =
       let within = h.allowed in
       record { in_row = h.in_row; units = h.units; counted = h.counted; allowed = omega arith; end = end_granted_so log x.search x.number x.end h.end; published = h.published; read = h.read }
 
-  cancelled_stands : (log : List (Entry Fact)) (x : SearchState) → Stands log (row_of true x) → Stands log (row_of true (cancelled x))
+  cancelled_stands : (log : List (Entry Fact)) (x : SearchState) → StandsBeside log (row_taken true x) → StandsBeside log (row_taken true (cancelled x))
   cancelled_stands log x h =
       record { in_row = h.in_row; units = h.units; counted = h.counted; allowed = omega arith; end = end_cancelled_so log x.search x.number x.end h.end; published = h.published; read = h.read }
 
-  new_stands : (log : List (Entry Fact)) (question number units : ℕ) (procedure : Procedure) (ask : Inquiry) (x : Search) → AllByRecursion (λ (entry : Entry Fact). entry.search < number) log → Opens procedure ask x → Stands log (row_of true (new_search question number x units))
+  new_stands : (log : List (Entry Fact)) (question number units : ℕ) (procedure : Procedure) (ask : Inquiry) (x : Search) → AllByRecursion (λ (entry : Entry Fact). entry.search < number) log → Opens procedure ask x → StandsBeside log (row_taken true (new_search question number x units))
   new_stands log question number units procedure ask (plain search) below opens = record {
     in_row = opens_in_row procedure ask (plain search) opens;
     units = ap (λ (s : Plain). s.cursor) opens.search_is;
@@ -368,9 +368,9 @@ module _ (plan : Plan) (workers : ℕ) where
         numbered = numbered_push 1 old.searches made ok.numbered (omega arith);
         single = single_push old.searches made ok.single (absent_other question number units procedure ask x opens old.searches absent);
         asked = all-append (IsAsked plan) old.searches (made ∷ []) ok.asked (new_asked question number units procedure ask x asked opens, tt);
-        stand = all-append (λ (z : SearchState). Stands old.log (row_of true z)) old.searches (made ∷ []) ok.stand (new_stands old.log question number units procedure ask x below opens, tt);
+        stand = all-append (λ (z : SearchState). StandsBeside old.log (row_taken true z)) old.searches (made ∷ []) ok.stand (new_stands old.log question number units procedure ask x below opens, tt);
         legal = legal_more (asks old.searches) (asks searches) (λ entry key a. asks_front old.searches (made ∷ []) entry key a) [] old.log ok.legal;
-        by_workers = ok.by_workers;
+        passes = ok.passes;
       }
 
   fund_ok : (units : ℕ) (old : State) → old.funded + units ≤ MOST_FUNDED → StateOk plan workers old → StateOk plan workers (record old { funded = old.funded + units; purse = old.purse + units })
@@ -383,7 +383,7 @@ module _ (plan : Plan) (workers : ℕ) where
         asked = ok.asked;
         stand = ok.stand;
         legal = ok.legal;
-        by_workers = ok.by_workers;
+        passes = ok.passes;
       }
 
   grants_ok : (question : ℕ) (procedure : Procedure) (units : ℕ) (old new : State) → units ≤ old.purse → Grants plan question procedure units old new → StateOk plan workers old → StateOk plan workers new
@@ -425,7 +425,7 @@ module _ (plan : Plan) (workers : ℕ) where
     asked = tt;
     stand = tt;
     legal = tt;
-    by_workers = tt;
+    passes = tt;
   }
 
   -- every state of a session is in order

@@ -20,9 +20,9 @@ use Rattle.mg_certs.specs.Validity.{key_of, recording}
 use Rattle.mg_plain.specs.Plain.{Plain, searching as plain_searching}
 use Rattle.mg_plain.specs.Sounds.{plain_sound}
 use Rattle.mg_search.specs.Search.{Search, plain, searching, ask_of, is_open}
-use Rattle.mg_session.specs.State.{State, SearchState, accounts, ledger_of, row_of, after_row}
+use Rattle.mg_session.specs.State.{State, SearchState, accounts, ledger_of, row_taken, after_row}
 use Rattle.mg_session.specs.Run.{IsRow, after_rows, Rounds, CanGoOn, TakesPart}
-use Rattle.mg_session.specs.StateOk.{EndsSo, Stands}
+use Rattle.mg_session.specs.StateOk.{EndsSo, StandsBeside}
 use Rattle.mg_session.specs.Kept.{seen, all_seen, HaveCells, state_of}
 use Rattle.mg_session.specs.Built.{one_worker}
 use Rattle.mg_session.specs.At.{AreTaking}
@@ -52,9 +52,9 @@ lift row = record {
 -- the rows of searches of which some run: the others sit out
 abbrev woven : List Bool → List SearchState → List (Row Plain) → List (Row Search)
 woven (true ∷ runs) (x ∷ xs) (row ∷ rows) = lift row ∷ woven runs xs rows
-woven (true ∷ runs) (x ∷ xs) [] = row_of true x ∷ woven runs xs []
+woven (true ∷ runs) (x ∷ xs) [] = row_taken true x ∷ woven runs xs []
 woven (true ∷ runs) [] rows = map lift rows
-woven (false ∷ runs) (x ∷ xs) rows = row_of true x ∷ woven runs xs rows
+woven (false ∷ runs) (x ∷ xs) rows = row_taken true x ∷ woven runs xs rows
 woven (false ∷ runs) [] rows = map lift rows
 woven [] xs rows = map lift rows
 
@@ -75,7 +75,7 @@ moved (true ∷ runs) (x ∷ xs) (r ∷ rows) zero row e = let same : r ≡ row 
 moved (true ∷ runs) (x ∷ xs) (r ∷ rows) (suc i) row e =
     let rest = moved runs xs rows i row e in record { place = suc rest.place; there = rest.there; with = λ new. ap (λ rs. lift r ∷ rs) (rest.with new) }
 moved (false ∷ runs) (x ∷ xs) rows i row e =
-    let rest = moved runs xs rows i row e in record { place = suc rest.place; there = rest.there; with = λ new. ap (λ rs. row_of true x ∷ rs) (rest.with new) }
+    let rest = moved runs xs rows i row e in record { place = suc rest.place; there = rest.there; with = λ new. ap (λ rs. row_taken true x ∷ rs) (rest.with new) }
 moved (true ∷ runs) [] rows i row e = record { place = i; there = map_there rows i row e; with = λ new. map-set lift rows i new }
 moved (false ∷ runs) [] rows i row e = record { place = i; there = map_there rows i row e; with = λ new. map-set lift rows i new }
 moved [] xs rows i row e = record { place = i; there = map_there rows i row e; with = λ new. map-set lift rows i new }
@@ -123,14 +123,14 @@ module _ (workers : ℕ) (IsSize : ℕ → ℕ → ℕ → ℕ → Type 0) (begi
   all_run : (old new : Running Fact Plain) → Runs recording plain_searching workers IsSize begin old new → Runs recording searching workers IsSize begin (all_rows old) (all_rows new)
   all_run old new h = (map all_rows h.0, all_lead h.0 old new h.1)
 
-abbrev IsOver : Row Search → Type 0
-IsOver row = (row.left ≡ true) ⊎ (row.allowed ≡ 0)
+abbrev IsFinished : Row Search → Type 0
+IsFinished row = (row.left ≡ true) ⊎ (row.allowed ≡ 0)
 
-map_over : (rows : List (Row Plain)) → AllByRecursion (λ (row : Row Plain). (row.left ≡ true) ⊎ (row.allowed ≡ 0)) rows → AllByRecursion IsOver (map lift rows)
+map_over : (rows : List (Row Plain)) → AllByRecursion (λ (row : Row Plain). (row.left ≡ true) ⊎ (row.allowed ≡ 0)) rows → AllByRecursion IsFinished (map lift rows)
 map_over [] h = tt
 map_over (row ∷ rows) h = (h.0, map_over rows h.1)
 
-all_over : (runs : List Bool) (xs : List SearchState) (rows : List (Row Plain)) → AllByRecursion (λ (row : Row Plain). (row.left ≡ true) ⊎ (row.allowed ≡ 0)) rows → AllByRecursion IsOver (woven runs xs rows)
+all_over : (runs : List Bool) (xs : List SearchState) (rows : List (Row Plain)) → AllByRecursion (λ (row : Row Plain). (row.left ≡ true) ⊎ (row.allowed ≡ 0)) rows → AllByRecursion IsFinished (woven runs xs rows)
 all_over (true ∷ runs) (x ∷ xs) [] h = (inl refl, all_over runs xs [] tt)
 all_over (true ∷ runs) (x ∷ xs) (row ∷ rows) h = (h.0, all_over runs xs rows h.1)
 all_over (false ∷ runs) (x ∷ xs) rows h = (inl refl, all_over runs xs rows h)
@@ -166,7 +166,7 @@ module _ (state : State) where
   abbrev InAll : SearchState → Type 0
   InAll x = x.account.spent + x.account.held ≤ 4611686018427387904
 
-  are_fit : (cell : ℕ) (runs : List Bool) (ks : List Kept) (cs : List Account) → EachPair (Taking state) (all_seen (cell + 1) ks cs) runs → AllByRecursion (λ (x : SearchState). Stands state.log (row_of true x)) (all_seen (cell + 1) ks cs) →
+  are_fit : (cell : ℕ) (runs : List Bool) (ks : List Kept) (cs : List Account) → EachPair (Taking state) (all_seen (cell + 1) ks cs) runs → AllByRecursion (λ (x : SearchState). StandsBeside state.log (row_taken true x)) (all_seen (cell + 1) ks cs) →
       AllByRecursion InAll (all_seen (cell + 1) ks cs) → AllByRecursion (IsFit plain_searching) (came cell runs ks cs)
   are_fit cell [] ks cs h stand within = tt
   are_fit cell (true ∷ runs) [] cs h stand within = tt
@@ -273,7 +273,7 @@ module _ where
   taking_long state (x ∷ xs) (b ∷ runs) h = ap suc (taking_long state xs runs h.1)
 
 module _ (state : State) (ledger : LedgerState) (ks : List Kept) (log : List (Entry Fact)) (is : state_of ledger ks log ≡ state) (cells : HaveCells ks ledger.cells) (runs : List Bool)
-    (units : IsLedger (ledger_of state)) (stand : AllByRecursion (λ (x : SearchState). Stands state.log (row_of true x)) state.searches) (taking : AreTaking state runs) where
+    (units : IsLedger (ledger_of state)) (stand : AllByRecursion (λ (x : SearchState). StandsBeside state.log (row_taken true x)) state.searches) (taking : AreTaking state runs) where
   abbrev first : State
   first = state_of ledger ks log
 
@@ -293,7 +293,7 @@ module _ (state : State) (ledger : LedgerState) (ks : List Kept) (log : List (En
       let units_first : IsLedger (ledger_of first) = subst (λ (s : State). IsLedger (ledger_of s)) (sym is) units in
       let whole = units_first.balance.whole in
       let bounded = units_first.bounded in
-      are_fit first 0 runs ks ledger.cells taking_first (subst (λ (s : State). AllByRecursion (λ (x : SearchState). Stands s.log (row_of true x)) s.searches) (sym is) stand) (each_within first.searches _ (omega arith))
+      are_fit first 0 runs ks ledger.cells taking_first (subst (λ (s : State). AllByRecursion (λ (x : SearchState). StandsBeside s.log (row_taken true x)) s.searches) (sym is) stand) (each_within first.searches _ (omega arith))
 
   pub few : length (places_of runs ks) < 2 ^ 32
   few = let long = places_long runs ks each_run in let most = cells.few in omega arith

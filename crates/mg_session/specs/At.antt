@@ -19,7 +19,7 @@ pub record IsKeptFor (question : ℕ) (procedure : Procedure) (kept : Kept) : Ty
   pub of_procedure : kept.search.procedure ≡ procedure
 
 -- the search of the question and procedure is at this place
-pub record IsAt (state : State) (question : ℕ) (procedure : Procedure) (place : ℕ) : Type 0 where
+pub record IsSearchAt (state : State) (question : ℕ) (procedure : Procedure) (place : ℕ) : Type 0 where
   pub search : SearchState
   pub there : slice_get state.searches place ≡ Some search
   pub is_of : IsOf question procedure search
@@ -34,7 +34,7 @@ with_new question search state = record state { searches = state.searches ++ new
 
 -- the search of the question and procedure is at the place: it was there, or it is new and holds nothing
 pub data IsReady (plan : Plan) (question : ℕ) (procedure : Procedure) (old : State) (place : ℕ) (new : State) : Type 0 where
-  was_there : IsAt old question procedure place → new ≡ old → IsReady plan question procedure old place new
+  was_there : IsSearchAt old question procedure place → new ≡ old → IsReady plan question procedure old place new
   is_new : IsAbsent old question procedure → (ask : Inquiry) (search : Search) → AskOf plan question ask → Opens procedure ask search →
       place ≡ length old.searches → new ≡ with_new question search old → IsReady plan question procedure old place new
 

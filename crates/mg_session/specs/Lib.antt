@@ -13,3 +13,4 @@ pub mod At
 pub mod Parting
 pub mod Lookups
 pub mod Stepped
+pub mod Printed

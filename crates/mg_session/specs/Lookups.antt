@@ -9,7 +9,7 @@ use Rattle.mg_search.specs.Search.{ask_of}
 use Rattle.mg_session.specs.State.{State, SearchState, asks}
 
 -- the search at a place is there, and this is read of it
-pub record IsAt {X : Type 0} (read : SearchState → X) (state : State) (place : ℕ) (value : X) : Type 0 where
+pub record ReadsAt {X : Type 0} (read : SearchState → X) (state : State) (place : ℕ) (value : X) : Type 0 where
   pub search : SearchState
   pub there : slice_get state.searches place ≡ Some search
   pub value_is : value ≡ read search

@@ -75,35 +75,35 @@ pub record IsSumLine (plan : Plan) (state : State) (search : SearchState) (sum :
   pub sum_is : sum ≡ record { search = search.number; name = question.name; procedure = procedure_of search.search; units = units_of search.number state.log }
 
 -- what a step prints from the state before it; which facts were printed in full is handed along
-abbrev pub TextOf : Plan → List ℕ → Step → State → List ℕ → List ℕ → Type 0
-TextOf plan shown (fund units) state text shown' =
+abbrev pub TextOf : Plan → Params → List ℕ → Step → State → List ℕ → List ℕ → Type 0
+TextOf plan params shown (fund units) state text shown' =
     (shown' ≡ shown) × (((state.funded + units ≤ MOST_FUNDED) × (text ≡ []))
     ⊎ ((MOST_FUNDED < state.funded + units) × (text ≡ fund_refused state.funded)))
-TextOf plan shown (grant question procedure units) state text shown' =
+TextOf plan params shown (grant question procedure units) state text shown' =
     (shown' ≡ shown) × (((units ≤ state.purse) × (text ≡ []))
     ⊎ ((state.purse < units) × (text ≡ grant_refused state.purse)))
-TextOf plan shown (run bound) state text shown' = (shown' ≡ shown) × (text ≡ [])
-TextOf plan shown (cancel question procedure) state text shown' =
+TextOf plan params shown (run bound) state text shown' = (shown' ≡ shown) × (text ≡ [])
+TextOf plan params shown (cancel question procedure) state text shown' =
     (shown' ≡ shown) × (((IsAbsent state question procedure → ⊥) × (text ≡ []))
     ⊎ (IsAbsent state question procedure × (text ≡ cancel_refused)))
-TextOf plan shown (report questions) state text shown' =
+TextOf plan params shown (report questions) state text shown' =
     (shown' ≡ shown) × (blocks : List QuestionBlock) × AreBlocks plan state 0 (take questions plan.questions) blocks × (text ≡ report_text state.funded state.purse blocks)
-TextOf plan shown report_facts state text shown' = (shown' ≡ shown) × (text ≡ facts_text (facts_of state.log))
-TextOf plan shown report_log state text shown' =
+TextOf plan params shown report_facts state text shown' = (shown' ≡ shown) × (text ≡ facts_text (facts_of state.log))
+TextOf plan params shown report_log state text shown' =
     (shown' ≡ shown) × (entries : List EntryLine) × EachPair (IsEntryLine state) state.log entries
     × (sums : List SumLine) × EachPair (IsSumLine plan state) state.searches sums × (text ≡ log_text entries sums)
 
 -- the texts of these steps, each from the state before its step
-abbrev pub Texts : Plan → List ℕ → List Step → List State → List (List ℕ) → Type 0
-Texts plan shown [] states texts = texts ≡ []
-Texts plan shown (step ∷ steps) [] texts = ⊥
-Texts plan shown (step ∷ steps) (state ∷ states) [] = ⊥
-Texts plan shown (step ∷ steps) (state ∷ states) (text ∷ texts) = (shown' : List ℕ) × TextOf plan shown step state text shown' × Texts plan shown' steps states texts
+abbrev pub Texts : Plan → Params → List ℕ → List Step → List State → List (List ℕ) → Type 0
+Texts plan params shown [] states texts = texts ≡ []
+Texts plan params shown (step ∷ steps) [] texts = ⊥
+Texts plan params shown (step ∷ steps) (state ∷ states) [] = ⊥
+Texts plan params shown (step ∷ steps) (state ∷ states) (text ∷ texts) = (shown' : List ℕ) × TextOf plan params shown step state text shown' × Texts plan params shown' steps states texts
 
 -- an output of a plan: the texts of the steps of a session of it, in order
 pub record Prints (plan : Plan) (params : Params) (output : List ℕ) : Type 0 where
   pub states : List State
   pub session : Session plan params states
   pub texts : List (List ℕ)
-  pub texts_are : Texts plan [] plan.steps states texts
+  pub texts_are : Texts plan params [] plan.steps states texts
   pub output_is : output ≡ flat_map (λ text. text) texts

@@ -1,5 +1,5 @@
 -- What a `run` step of a session does, phase after phase.
-use Rattle.std.specs.Prelude.{◌≡◌, ℕ, ◌+◌, ◌≤◌, ◌↔◌, min, false, Option, Some, None, List, [], ◌∷◌, map}
+use Rattle.std.specs.Prelude.{◌≡◌, ℕ, ◌+◌, ◌≤◌, ◌↔◌, min, false, Option, Some, None, List, [], ◌∷◌, map, slice_get}
 use Rattle.std.specs.List.{AllByRecursion}
 use Rattle.mg_core.specs.declared.entries.Entry.{Entry}
 use Rattle.mg_core.specs.Log.{Settled, KeeperOf, ModelsAbove}
@@ -13,7 +13,7 @@ use Rattle.mg_names.specs.Plan.{Plan}
 use Rattle.mg_certs.specs.Claim.{Fact}
 use Rattle.mg_certs.specs.Validity.{key_of, recording}
 use Rattle.mg_search.specs.Search.{Search, plain, ask_of, searching}
-use Rattle.mg_session.specs.State.{State, SearchState, Params, row_of, after_row, give_back, ended, accounts}
+use Rattle.mg_session.specs.State.{State, SearchState, Params, row_taken, after_row, give_back, ended, accounts}
 
 -- the search's Ask has a verdict in the state's log
 abbrev pub IsSettled : State → SearchState → Type 0
@@ -21,7 +21,7 @@ IsSettled state search = Settled key_of state.log (ask_of search.search)
 
 -- a row is that of the search; it takes part exactly where the test holds
 pub record IsRow (Takes : SearchState → Type 0) (search : SearchState) (row : Row Search) : Type 0 where
-  pub row_is : row ≡ row_of row.left search
+  pub row_is : row ≡ row_taken row.left search
   pub takes : (row.left ≡ false) ↔ Takes search
 
 -- the searches as a run leaves them
@@ -82,11 +82,18 @@ pub record Idles (state : State) (search : SearchState) : Type 0 where
   pub rest : List (ℕ × Fact)
   pub unread : ModelsAbove recording.model_of state.log (ask_of search.search).group search.read ((number, model) ∷ rest)
 
--- while some search idles beside an unread model, those that do are run again
+-- some search of the state idles beside an unread model
+pub record SomeIdles (state : State) : Type 0 where
+  pub place : ℕ
+  pub search : SearchState
+  pub there : slice_get state.searches place ≡ Some search
+  pub idles : Idles state search
+
+-- while some search of the state idles beside an unread model, those that do are run again
 abbrev pub FurtherBy : Plan → Params → State → List State → State → Type 0
 FurtherBy plan params old [] new = AllByRecursion (λ search. Idles old search → ⊥) old.searches × (new ≡ old)
 FurtherBy plan params old (next ∷ states) new =
-    (search : SearchState) × Idles old search × (mid : State) × Rounds params Idles old mid × Inherit plan mid next × FurtherBy plan params next states new
+    SomeIdles old × (mid : State) × Rounds params Idles old mid × Inherit plan mid next × FurtherBy plan params next states new
 
 abbrev pub Further : Plan → Params → State → State → Type 0
 Further plan params old new = (states : List State) × FurtherBy plan params old states new

@@ -17,19 +17,19 @@ use Rattle.mg_session.specs.State.{State, SearchState}
 abbrev pub reach : Option ℕ → SearchState → ℕ
 reach bound search = search.account.spent + within_bound bound search.account.held
 
--- a search that stands so has units left that it can't spend
-abbrev pub IsOver : End → Type 0
-IsOver ends.Closed = Unit {0}
-IsOver ends.Idle = Unit {0}
-IsOver (ends.Full what count) = Unit {0}
-IsOver _ = ⊥
+-- a search that stands so may hold units that it hasn't spent
+abbrev pub LeavesUnits : End → Type 0
+LeavesUnits ends.Closed = Unit {0}
+LeavesUnits ends.Idle = Unit {0}
+LeavesUnits (ends.Full what count) = Unit {0}
+LeavesUnits _ = ⊥
 
 -- Where a run leaves a search: its Ask is settled and it holds nothing, or its Ask isn't settled, it holds all that it
--- hasn't spent, and it has spent its whole reach or is over.
+-- hasn't spent, and it has spent its whole reach or is closed, idle or full.
 pub data RunEnds (bound : Option ℕ) (log : List (Entry Fact)) (search after : SearchState) : Type 0 where
   is_settled : Settled key_of log (ask_of search.search) → after.account.held ≡ 0 → RunEnds bound log search after
   is_open : (Settled key_of log (ask_of search.search) → ⊥) → after.account.held + after.account.spent ≡ search.account.held + search.account.spent →
-      (after.account.spent ≡ reach bound search) ⊎ IsOver after.end → RunEnds bound log search after
+      (after.account.spent ≡ reach bound search) ⊎ LeavesUnits after.end → RunEnds bound log search after
 
 -- What a run does to a search: it stays the search that it was, and spends no more than its reach.
 pub record IsRunTo (bound : Option ℕ) (log : List (Entry Fact)) (search after : SearchState) : Type 0 where

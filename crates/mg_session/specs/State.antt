@@ -61,8 +61,8 @@ abbrev pub ended : End → SearchState → SearchState
 ended end search = record search { end = end }
 
 -- a search as a run takes it, which sits out where it has left
-abbrev pub row_of : Bool → SearchState → Row Search
-row_of left search = record {
+abbrev pub row_taken : Bool → SearchState → Row Search
+row_taken left search = record {
   search = search.search;
   number = search.number;
   held = search.account.held;

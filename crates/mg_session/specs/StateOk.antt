@@ -16,7 +16,7 @@ use Rattle.mg_certs.specs.Claim.{Fact}
 use Rattle.mg_certs.specs.Validity.{IsValid, key_of}
 use Rattle.mg_search.specs.Search.{Search, ask_of, procedure_of, units_spent, is_open, InRow, HasPublished}
 use Rattle.mg_session.specs.Run.{KeepsVerdict}
-use Rattle.mg_session.specs.State.{State, SearchState, ledger_of, asks, row_of}
+use Rattle.mg_session.specs.State.{State, SearchState, ledger_of, asks, row_taken}
 
 -- a search that stands so goes on, or is over; one that was stopped may be either
 abbrev pub IsOpenAt : End → Search → Type 0
@@ -71,7 +71,7 @@ pub record EndsSo (log : List (Entry Fact)) (search : Search) (number : ℕ) (en
 -- How a search stands beside the log: its state is one that its turns lead to, and its verdict what that state
 -- says; its units are those of its entries; it may spend no more than it holds; and it has read no further
 -- than the facts go.
-pub record Stands (log : List (Entry Fact)) (row : Row Search) : Type 0 where
+pub record StandsBeside (log : List (Entry Fact)) (row : Row Search) : Type 0 where
   pub in_row : InRow row.search
   pub units : units_spent row.search ≡ row.spent
   pub counted : units_of row.number log ≡ row.spent
@@ -99,18 +99,18 @@ abbrev pub AreSingle : List SearchState → Type 0
 AreSingle [] = Unit {0}
 AreSingle (search ∷ searches) = AllByRecursion (AreOther search) searches × AreSingle searches
 
--- the entry was committed by one of the workers, which count from 1
-pub record IsByWorker (workers : ℕ) (entry : Entry Fact) : Type 0 where
-  pub from : 1 ≤ entry.pass
-  pub upto : entry.pass ≤ workers
+-- the entry was committed by one of the workers, which count from 1, or by none of them and without units
+pub data HasPass (workers : ℕ) (entry : Entry Fact) : Type 0 where
+  of_worker : 1 ≤ entry.pass → entry.pass ≤ workers → HasPass workers entry
+  of_none : entry.pass ≡ 0 → entry.units ≡ 0 → HasPass workers entry
 
 -- The accounts balance, and every unit funded is in the purse, held or spent. The searches are numbered from 1, and
--- a question has one of each procedure at most. The log is legal, and its entries are by the workers.
+-- a question has one of each procedure at most. The log is legal, and each of its entries is by a worker, or without units by none.
 pub record StateOk (plan : Plan) (workers : ℕ) (state : State) : Type 0 where
   pub ledger : IsLedger (ledger_of state)
   pub numbered : AreNumbered 1 state.searches
   pub single : AreSingle state.searches
   pub asked : AllByRecursion (IsAsked plan) state.searches
-  pub stand : AllByRecursion (λ search. Stands state.log (row_of true search)) state.searches
+  pub stand : AllByRecursion (λ search. StandsBeside state.log (row_taken true search)) state.searches
   pub legal : LegalFrom IsValid key_of (asks state.searches) [] state.log
-  pub by_workers : AllByRecursion (IsByWorker workers) state.log
+  pub passes : AllByRecursion (HasPass workers) state.log

@@ -9,4 +9,4 @@ use Rattle.mg_session.specs.Built.{one_worker}
 -- the step leads from a state to a state and prints this, whatever was printed before
 pub record IsStepped (plan : Plan) (step : Step) (old new : State) (text : List ℕ) : Type 0 where
   pub after : After plan one_worker step old new
-  pub text_is : (shown : List ℕ) → TextOf plan shown step old text shown
+  pub text_is : (shown : List ℕ) → TextOf plan one_worker shown step old text shown

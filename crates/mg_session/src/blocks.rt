@@ -39,7 +39,9 @@ fn block_at<'a>(
 ) -> Result<QuestionBlock<'a>, NoMemory>
     requires plan { IsPlan plan.now }
     requires there { place < length plan.now.questions }
-    ensures { IfOk result (λ block. (question : QuestionOf) × (slice_get plan.now.questions place ≡ Some question) × IsBlock plan.now session.now place question (block_of block)) }
+    ensures { IfOk result (λ block. (question : QuestionOf) ×
+        (slice_get plan.now.questions place ≡ Some question) ×
+        IsBlock plan.now session.now place question (block_of block)) }
 {
     let question = &plan.questions.as_slice()[place as usize];
     let group = &plan.groups.as_slice()[question.group as usize];
@@ -89,7 +91,9 @@ fn push_lines(
     own: &[SearchLine],
     procedure: Procedure,
 ) -> Result<(), NoMemory>
-    ensures { OnOk result (map search_of lines.new ≡ map search_of lines.old ++ filter (λ line. procedure_place line.procedure == procedure_place procedure) (map search_of own.now)) }
+    ensures { OnOk result (map search_of lines.new ≡ map search_of lines.old ++
+        filter (λ line. procedure_place line.procedure == procedure_place procedure)
+        (map search_of own.now)) }
 {
     for line in own {
         if line.procedure == procedure {

@@ -49,7 +49,8 @@ fn line_of(session: &Session, entry: &EntryView<'_, Claim>) -> EntryLine
 /// What became of the turn of an entry.
 fn fate_of_turn(session: &Session, entry: &EntryView<'_, Claim>) -> Fate
     requires { HasCause session.now (entry_seen entry.now) }
-    ensures { IsEntryLine session.now (entry_seen entry.now) (entry_line (entry_seen entry.now) (fate_of result)) }
+    ensures { IsEntryLine session.now (entry_seen entry.now) (entry_line (entry_seen entry.now)
+        (fate_of result)) }
 {
     if entry.dropped {
         let fact = cause_of(session, entry);
@@ -90,7 +91,8 @@ pub(crate) fn sum_lines<'a>(
 fn sum_at<'a>(plan: &'a Plan, session: &Session, place: u32) -> SumLine<'a>
     requires ok { StateOk plan.now 1 session.now }
     requires there { place < length session.now.searches }
-    ensures { (search : SearchState) × (slice_get session.now.searches place ≡ Some search) × IsSumLine plan.now session.now search (sum_of result) }
+    ensures { (search : SearchState) × (slice_get session.now.searches place ≡ Some search) ×
+        IsSumLine plan.now session.now search (sum_of result) }
 {
     let line = session.line(place);
     SumLine {
@@ -104,7 +106,8 @@ fn sum_at<'a>(plan: &'a Plan, session: &Session, place: u32) -> SumLine<'a>
 /// The name of the question at a place.
 fn name_of(plan: &Plan, place: u32) -> &[u8]
     requires { place < length plan.now.questions }
-    ensures { (question : QuestionOf) × (slice_get plan.now.questions place ≡ Some question) × (result.now ≡ question.name) }
+    ensures { (question : QuestionOf) × (slice_get plan.now.questions place ≡ Some question) ×
+        (result.now ≡ question.name) }
 {
     let question = &plan.questions.as_slice()[place as usize];
     question.name.as_slice()

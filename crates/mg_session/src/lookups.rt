@@ -4,7 +4,7 @@ ghost use Rattle.mg_core.specs.Log.{facts_of};
 ghost use Rattle.mg_search.specs.Search.{ask_of};
 ghost use Rattle.mg_report.specs.Values.{search_of, found_of};
 ghost use Rattle.mg_session.specs.Output.{line_of, IsVerdict};
-ghost use Rattle.mg_session.specs.Lookups.{IsAt};
+ghost use Rattle.mg_session.specs.Lookups.{ReadsAt};
 
 use crate::state::Session;
 use mg_certs::{Claim, ClaimView, Verdict};
@@ -45,7 +45,7 @@ impl Session {
     /// The place of the question of the search at a place.
     pub(crate) fn question(&self, place: u32) -> u32
         requires { place < length self.now.searches }
-        ensures { IsAt (λ search. search.question) self.now place result }
+        ensures { ReadsAt (λ search. search.question) self.now place result }
     {
         self.searches[place as usize].question
     }
@@ -53,7 +53,7 @@ impl Session {
     /// The number of the search at a place.
     pub(crate) fn number(&self, place: u32) -> u32
         requires { place < length self.now.searches }
-        ensures { IsAt (λ search. search.number) self.now place result }
+        ensures { ReadsAt (λ search. search.number) self.now place result }
     {
         let _searches = &self.searches;
         place + 1
@@ -62,7 +62,7 @@ impl Session {
     /// What the search at a place asks.
     pub(crate) fn ask(&self, place: u32) -> &Ask
         requires { place < length self.now.searches }
-        ensures { IsAt (λ search. ask_of search.search) self.now place result.now }
+        ensures { ReadsAt (λ search. ask_of search.search) self.now place result.now }
     {
         self.searches[place as usize].search.key()
     }
@@ -70,7 +70,7 @@ impl Session {
     /// What a report says of the search at a place.
     pub(crate) fn line(&self, place: u32) -> SearchLine
         requires { place < length self.now.searches }
-        ensures { IsAt line_of self.now place (search_of result) }
+        ensures { ReadsAt line_of self.now place (search_of result) }
     {
         let kept = &self.searches[place as usize];
         SearchLine {

@@ -42,8 +42,10 @@ fn start(alloc: Global, procedure: Procedure, ask: &Ask) -> Result<Plain, NoMemo
 impl Session {
     /// Adds units to the purse, and answers what is printed of it.
     pub(crate) fn fund(&mut self, alloc: Global, units: u64) -> Result<Vec<u8>, NoMemory>
-        ensures after { OnOk result ((plan : PlanOf) → After plan one_worker (fund units) self.old self.new) }
-        ensures text { IfOk result (λ text. (plan : PlanOf) (shown : List ℕ) → TextOf plan shown (fund units) self.old text.items shown) }
+        ensures after { OnOk result ((plan : PlanOf) →
+            After plan one_worker (fund units) self.old self.new) }
+        ensures text { IfOk result (λ text. (plan : PlanOf) (shown : List ℕ) →
+            TextOf plan one_worker shown (fund units) self.old text.items shown) }
     {
         match self.ledger.fund(units) {
             Ok(()) => Ok(Vec::new(alloc)),
@@ -65,7 +67,8 @@ impl Session {
         requires few { length self.old.searches < u32.MAX }
         requires counted { AreCounted self.old }
         ensures after { OnOk result (After plan.now one_worker (grant question procedure units) self.old self.new) }
-        ensures text { IfOk result (λ text. (shown : List ℕ) → TextOf plan.now shown (grant question procedure units) self.old text.items shown) }
+        ensures text { IfOk result (λ text. (shown : List ℕ) →
+            TextOf plan.now one_worker shown (grant question procedure units) self.old text.items shown) }
     {
         let purse = self.ledger.purse();
         if units > purse {
@@ -105,8 +108,10 @@ impl Session {
         question: u32,
         procedure: Procedure,
     ) -> Result<Vec<u8>, NoMemory>
-        ensures after { OnOk result ((plan : PlanOf) → After plan one_worker (cancel question procedure) self.old self.new) }
-        ensures text { IfOk result (λ text. (plan : PlanOf) (shown : List ℕ) → TextOf plan shown (cancel question procedure) self.old text.items shown) }
+        ensures after { OnOk result ((plan : PlanOf) →
+            After plan one_worker (cancel question procedure) self.old self.new) }
+        ensures text { IfOk result (λ text. (plan : PlanOf) (shown : List ℕ) →
+            TextOf plan one_worker shown (cancel question procedure) self.old text.items shown) }
     {
         match self.place_of(question, procedure) {
             Some(place) => {

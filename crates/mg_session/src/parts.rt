@@ -2,9 +2,9 @@
 ghost use Rattle.std.specs.Prelude.{◌≡◌, ◌+◌, ◌-◌, ◌<◌, ◌≤◌, ◌^◌, IfOk, OnOk, List, ◌∷◌, drop, length, reverse, slice_set, true};
 ghost use Rattle.std.specs.List.{AllByRecursion};
 ghost use Rattle.mg_ledger.specs.Ledgers.{IsLedger, account_at};
-ghost use Rattle.mg_session.specs.State.{row_of, ledger_of};
+ghost use Rattle.mg_session.specs.State.{row_taken, ledger_of};
 ghost use Rattle.mg_session.specs.Run.{Rounds, TakesPart};
-ghost use Rattle.mg_session.specs.StateOk.{Stands};
+ghost use Rattle.mg_session.specs.StateOk.{StandsBeside};
 ghost use Rattle.mg_session.specs.Kept.{HaveCells};
 ghost use Rattle.mg_session.specs.Built.{one_worker};
 ghost use Rattle.mg_session.specs.At.{AreTaking};
@@ -125,8 +125,10 @@ fn turned_round(alloc: Global, mut searches: HeldList<Plain>) -> Result<Vec<Held
 
 /// The search at a place: the next of those that ran, whose cell gives what it spent, or the one that rests.
 fn put_back(ledger: &mut Ledger, cell: u32, place: Place, ran: &mut Vec<Held<Plain>>) -> Kept
-    requires { (places : List PlaceOf) × HaveSpent (place ∷ places) (reverse ran.old.items) (drop cell ledger.old.cells) }
-    ensures { (places : List PlaceOf) → HaveSpent (place ∷ places) (reverse ran.old.items) (drop cell ledger.old.cells) →
+    requires { (places : List PlaceOf) ×
+        HaveSpent (place ∷ places) (reverse ran.old.items) (drop cell ledger.old.cells) }
+    ensures { (places : List PlaceOf) →
+        HaveSpent (place ∷ places) (reverse ran.old.items) (drop cell ledger.old.cells) →
         IsPutBack cell place places ran.old.items ledger.old result ran.new.items ledger.new }
 {
     match place {
@@ -167,7 +169,7 @@ impl Session {
     /// Lets those searches run that take part, as one worker, until each has left or has no allowed units.
     pub(crate) fn rounds(self, alloc: Global, runs: &[bool]) -> Result<Session, NoMemory>
         requires ledger { IsLedger (ledger_of self) }
-        requires stand { AllByRecursion (λ search. Stands self.log (row_of true search)) self.searches }
+        requires stand { AllByRecursion (λ search. StandsBeside self.log (row_taken true search)) self.searches }
         requires taking { AreTaking self runs.now }
         ensures { IfOk result (λ after. Rounds one_worker TakesPart self after) }
     {

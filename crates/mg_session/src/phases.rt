@@ -46,7 +46,8 @@ impl Session {
     /// A whole run: each search may spend what it holds, or the bound where that is less.
     pub(crate) fn run(self, alloc: Global, bound: Option<u64>) -> Result<Session, NoMemory>
         requires { (plan : Plan) × StateOk plan 1 self }
-        ensures { IfOk result (λ after. (plan : Plan) → After plan one_worker (run bound) self after) }
+        ensures { IfOk result (λ after. (plan : Plan) →
+            After plan one_worker (run bound) self after) }
     {
         let mut session = self;
         session.allow(bound);

@@ -10,7 +10,7 @@ ghost use Rattle.mg_session.specs.State.{SearchState};
 ghost use Rattle.mg_session.specs.Run.{CanGoOn, TakesPart, IsSettled, IsSettledTo, within_bound, allow as allowed};
 ghost use Rattle.mg_session.specs.Session.{IsAbsent, end_granted, end_cancelled, granted, cancelled};
 ghost use Rattle.mg_session.specs.StateOk.{EndsSo};
-ghost use Rattle.mg_session.specs.At.{IsKeptFor, IsAt, MayRun, Replaces, with_new};
+ghost use Rattle.mg_session.specs.At.{IsKeptFor, IsSearchAt, MayRun, Replaces, with_new};
 
 use crate::state::{Kept, Session};
 use mg_certs::Claim;
@@ -100,8 +100,10 @@ fn is_for(kept: &Kept, question: u32, procedure: Procedure) -> bool
 /// The place of the search of a question and a procedure.
 fn place_among(searches: &[Kept], question: u32, procedure: Procedure) -> Option<u32>
     requires { length searches.now < 2 ^ 32 }
-    ensures none { IfNone result (AllByRecursion (λ kept. IsKeptFor question procedure kept → ⊥) searches.now) }
-    ensures some { IfSome result (λ place. (kept : Kept) × (slice_get searches.now place ≡ Some kept) × IsKeptFor question procedure kept) }
+    ensures none { IfNone result (AllByRecursion (λ kept. IsKeptFor question procedure kept →
+        ⊥) searches.now) }
+    ensures some { IfSome result (λ place. (kept : Kept) ×
+        (slice_get searches.now place ≡ Some kept) × IsKeptFor question procedure kept) }
 {
     for (place, kept) in searches.iter().enumerate() {
         if is_for(kept, question, procedure) {
@@ -122,7 +124,7 @@ impl Session {
     /// The place of the search of a question and a procedure; None exactly where there is none.
     pub(crate) fn place_of(&self, question: u32, procedure: Procedure) -> Option<u32>
         ensures none { IfNone result (IsAbsent self.now question procedure) }
-        ensures some { IfSome result (λ place. IsAt self.now question procedure place) }
+        ensures some { IfSome result (λ place. IsSearchAt self.now question procedure place) }
     {
         place_among(self.searches.as_slice(), question, procedure)
     }
@@ -153,7 +155,8 @@ impl Session {
     pub(crate) fn grant_at(&mut self, place: u32, units: u64)
         requires there { place < length self.old.searches }
         requires few { units ≤ self.old.purse }
-        requires counted { (x : SearchState) → slice_get self.old.searches place ≡ Some x → x.account.granted ≤ MOST_GRANTED }
+        requires counted { (x : SearchState) → slice_get self.old.searches place ≡ Some x →
+            x.account.granted ≤ MOST_GRANTED }
         ensures { (x : SearchState) → slice_get self.old.searches place ≡ Some x →
             Replaces self.old place (self.old.purse - units) (granted units x) self.new }
     {
@@ -191,8 +194,10 @@ impl Session {
     /// Whether the Ask of a search is settled.
     fn is_settled(&self, place: u32) -> bool
         requires there { place < length self.now.searches }
-        ensures settled { IsTrue result → (x : SearchState) → slice_get self.now.searches place ≡ Some x → IsSettled self.now x }
-        ensures unsettled { result ≡ false → (x : SearchState) → slice_get self.now.searches place ≡ Some x → IsSettled self.now x → ⊥ }
+        ensures settled { IsTrue result → (x : SearchState) →
+            slice_get self.now.searches place ≡ Some x → IsSettled self.now x }
+        ensures unsettled { result ≡ false → (x : SearchState) →
+            slice_get self.now.searches place ≡ Some x → IsSettled self.now x → ⊥ }
     {
         has_verdict(&self.book, self.searches[place as usize].search.key())
     }
@@ -200,7 +205,8 @@ impl Session {
     /// Whether a search takes part in a run: it holds units, its Ask isn't settled, and it is neither closed nor full.
     pub(crate) fn takes_part(&self, place: u32) -> bool
         requires there { place < length self.now.searches }
-        ensures { (x : SearchState) → slice_get self.now.searches place ≡ Some x → IsTrue result ↔ TakesPart self.now x }
+        ensures { (x : SearchState) → slice_get self.now.searches place ≡ Some x →
+            IsTrue result ↔ TakesPart self.now x }
     {
         let settled = self.is_settled(place);
         let held = self.ledger.account(place).held;
@@ -211,8 +217,10 @@ impl Session {
     /// stopped where another did.
     pub(crate) fn settle_at(&mut self, place: u32)
         requires there { place < length self.old.searches }
-        ensures { (x : SearchState) → slice_get self.old.searches place ≡ Some x → EndsSo self.old.log x.search x.number x.end →
-            (y : SearchState) × IsSettledTo self.old x y × Replaces self.old place (self.old.purse + (x.account.held - y.account.held)) y self.new }
+        ensures { (x : SearchState) → slice_get self.old.searches place ≡ Some x →
+            EndsSo self.old.log x.search x.number x.end →
+            (y : SearchState) × IsSettledTo self.old x y ×
+            Replaces self.old place (self.old.purse + (x.account.held - y.account.held)) y self.new }
     {
         if self.is_settled(place) {
             self.ledger.give_back(place);

@@ -66,8 +66,10 @@ impl From<AllocError> for SessionRefused {
 pub fn run_script(alloc: Global, bytes: &[u8]) -> Result<Text, SessionRefused>
     requires { length bytes.now < 2 ^ 32 - 1 }
     ensures output { IfOk result (IsOutput bytes.now one_worker) }
-    ensures script { (r : Refused) → result ≡ Err (SessionRefused.Script r) → IsRefused bytes.now r }
-    ensures not_built { (line : ℕ) → result ≡ Err (SessionRefused.NotBuilt line) → Unbuilt bytes.now line }
+    ensures script { (r : Refused) → result ≡ Err (SessionRefused.Script r) →
+        IsRefused bytes.now r }
+    ensures not_built { (line : ℕ) → result ≡ Err (SessionRefused.NotBuilt line) →
+        Unbuilt bytes.now line }
     ensures built { OnOk result ((line : ℕ) → Unbuilt bytes.now line → ⊥) }
 {
     let script = parse(alloc, bytes)?;
@@ -107,7 +109,8 @@ fn uses_other(line: &[Lexeme]) -> bool
 
 /// Whether these are the keyword, a name and another procedure than `derive`.
 fn names_other(first: Lexeme, keyword: Keyword, second: Lexeme, third: Lexeme) -> bool
-    ensures { IsTrue result ↔ ((first ≡ Lexeme.Keyword keyword) × (second ≡ Lexeme.Name) × IsOther third) }
+    ensures { IsTrue result ↔ ((first ≡ Lexeme.Keyword keyword) × (second ≡ Lexeme.Name) ×
+        IsOther third) }
 {
     if !is_keyword(first, keyword) || !is_name(second) {
         return false;

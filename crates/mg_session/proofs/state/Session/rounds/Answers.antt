@@ -19,12 +19,12 @@ join-requires-clause-few c = subst (λ places. length places < 2 ^ 32) (sym c.in
 
 pub join-requires-clause-spent : goal.join-requires-clause-spent
 join-requires-clause-spent c =
-    let went = (subst (λ hs. GoesRound recording searching hs c.self.inside.book c.in_ok-ran.ran c.go_round.new.book) c.in_ok-parted.ensures.running c.in_ok-ran.ensures) in
+    let went = (subst (λ hs. GoesRound recording searching hs c.self.inside.book c.in_ok-ran.ran c.go_round.new.book) c.in_ok-parted.ensures.running c.in_ok-ran.ensures.ok) in
     subst (λ places. HaveSpent places c.in_ok-ran.ran c.self.inside.ledger.cells) (sym c.in_ok-parted.ensures.places) (spent c.args.self c.self.inside.ledger c.self.inside.searches.items c.self.inside.book c.self.view_is c.self.invariant c.args.runs.now c.requires.ledger c.requires.stand c.requires.taking c.in_ok-ran.ran c.go_round.new.book went)
 
 pub invariant_of-result : goal.invariant_of-result
 invariant_of-result c =
-    let went = (subst (λ hs. GoesRound recording searching hs c.self.inside.book c.in_ok-ran.ran c.go_round.new.book) c.in_ok-parted.ensures.running c.in_ok-ran.ensures) in
+    let went = (subst (λ hs. GoesRound recording searching hs c.self.inside.book c.in_ok-ran.ran c.go_round.new.book) c.in_ok-parted.ensures.running c.in_ok-ran.ensures.ok) in
     have_cells (places_of c.args.runs.now c.self.inside.searches.items) c.in_ok-ran.ran c.self.inside.ledger.cells c.in_ok-searches.searches.items c.join.new.ledger.cells (few c.args.self c.self.inside.ledger c.self.inside.searches.items c.self.inside.book c.self.view_is c.self.invariant c.args.runs.now c.requires.ledger c.requires.stand c.requires.taking)
     (spent c.args.self c.self.inside.ledger c.self.inside.searches.items c.self.inside.book c.self.view_is c.self.invariant c.args.runs.now c.requires.ledger c.requires.stand c.requires.taking c.in_ok-ran.ran c.go_round.new.book went)
     (c.in_ok-searches.ensures.searches ∙ ap (λ places. joined places c.in_ok-ran.ran) c.in_ok-parted.ensures.places)
@@ -32,7 +32,7 @@ invariant_of-result c =
 
 pub returns : goal.returns
 returns c =
-    let went = (subst (λ hs. GoesRound recording searching hs c.self.inside.book c.in_ok-ran.ran c.go_round.new.book) c.in_ok-parted.ensures.running c.in_ok-ran.ensures) in
+    let went = (subst (λ hs. GoesRound recording searching hs c.self.inside.book c.in_ok-ran.ran c.go_round.new.book) c.in_ok-parted.ensures.running c.in_ok-ran.ensures.ok) in
     rounds c.args.self c.self.inside.ledger c.self.inside.searches.items c.self.inside.book c.self.view_is c.self.invariant c.args.runs.now c.requires.ledger c.requires.stand c.requires.taking c.in_ok-ran.ran c.go_round.new.book went c.join.new.ledger c.in_ok-searches.searches.items
     (c.in_ok-searches.ensures.cells ∙ ap (λ places. record (c.self.inside.ledger) { cells = cells_after places c.in_ok-ran.ran c.self.inside.ledger.cells }) c.in_ok-parted.ensures.places)
     (c.in_ok-searches.ensures.searches ∙ ap (λ places. joined places c.in_ok-ran.ran) c.in_ok-parted.ensures.places)

@@ -1,5 +1,0 @@
-pub mod Command
-pub mod Exit
-pub mod Message
-pub mod Answer
-pub mod Spent

@@ -1,0 +1,5 @@
+mod Answered
+mod Answers
+mod Spent
+mod Carrying
+mod Settling
