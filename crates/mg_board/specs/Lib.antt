@@ -1,0 +1,4 @@
+pub mod History
+pub mod Passes
+pub mod Seats
+pub mod Shared

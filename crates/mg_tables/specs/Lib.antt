@@ -1,0 +1,4 @@
+pub mod Table
+pub mod Force
+pub mod Joining
+pub mod Enumeration
