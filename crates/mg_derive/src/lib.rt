@@ -19,7 +19,7 @@ pub use laws::{accepted_derivations_hold, true_questions_have_derivations};
 pub use limits::the_limits;
 pub use mg_words::NoMemory;
 pub use numbering::{digit_of, symbol_count, symbol_of, symbols_at, texts_and_numbers_correspond};
-pub use search::{Advance, Enumeration};
+pub use search::Enumeration;
 pub use symbol::Symbol;
 
 #[cfg(test)]

@@ -3,26 +3,15 @@ ghost use Rattle.std.specs.Prelude.{◌≡◌, ℕ, ◌+◌, ◌≤◌, true, fa
 ghost use Rattle.mg_numbers.specs.declared.blocks.TheConstants.{MOST_NUMBER};
 ghost use Rattle.mg_numbers.specs.Plain.{NoneAmong, TestsAll, FindsFirst};
 ghost use Rattle.mg_derive.specs.Acceptance.{AcceptedAt, IsAccepted, IsNumbered};
-ghost use Rattle.mg_derive.specs.declared.search.Advance.TheVariants.{More, Found};
+ghost use Rattle.mg_numbers.specs.declared.advance.Advance.TheVariants.{More, Found};
 
 use crate::derivation::Derivation;
 use crate::walk::Walk;
+use mg_numbers::Advance;
 use mg_present::Ask;
 use mg_words::NoMemory;
 use std::alloc::Global;
 use std::marker::Model;
-
-/// How a call of [`Enumeration::advance`] ended.
-#[derive(Clone, Copy, Debug, PartialEq, Eq)]
-pub enum Advance {
-    /// All units are spent, and no text that was tested is accepted.
-    More,
-    /// The text that was tested last is accepted, the first one.
-    Found {
-        /// How many texts this call tested.
-        spent: u64,
-    },
-}
 
 /// A search through the texts of an Ask. A unit is one text tested; the cursor is the number of the
 /// last text tested, and no text up to it was accepted before the search found one.

@@ -4,7 +4,7 @@ ghost use Rattle.mg_present.specs.Ask.{IsReducedOver};
 ghost use Rattle.mg_present.specs.Presentation.{IsRelator};
 
 use super::*;
-use mg_numbers::Digits;
+use mg_numbers::{Advance, Digits};
 use mg_present::{Ask, Presentation};
 use mg_words::{Letter, Word, Words, is_over, is_reduced};
 use std::alloc::{AllocError, Global};

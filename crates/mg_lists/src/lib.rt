@@ -48,6 +48,16 @@ impl<T> List<T> {
         Ok(())
     }
 
+    /// Appends copies of members, in order.
+    pub fn extend_from_slice(&mut self, members: &[T]) -> Result<(), NoMemory>
+    where
+        T: Copy,
+        ensures ok { OnOk result (self.new ≡ self.old ++ members.now) }
+        ensures err { OnErr result (self.new ≡ self.old) }
+    {
+        self.members.extend_from_slice(members)
+    }
+
     /// Takes the last member out; None exactly where there is none.
     pub fn pop(&mut self) -> Option<T>
         ensures none { IfNone result ((self.old ≡ []) × (self.new ≡ [])) }
@@ -115,7 +125,7 @@ mod tests {
         list.push(8)?;
         assert_eq!(rt; list.as_slice(), [7, 8].as_slice());
         let mut other: List<u32> = List::new(rt.alloc());
-        other.push(7)?;
+        other.extend_from_slice(&[7])?;
         assert_eq!(rt; list.cmp(&other), Ordering::Greater);
         assert_eq!(rt; list.pop(), Some(8));
         assert!(rt; list == other);

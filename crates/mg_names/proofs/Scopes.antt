@@ -25,7 +25,7 @@ use Rattle.mg_names.specs.declared.limits.TheConstants.{ASK_LETTER_LIMIT, REWRIT
 use Rattle.mg_names.specs.declared.plan.TheConstants.{MOST_SEARCHES}
 use Rattle.mg_names.specs.Plan.{Plan, PlanGroup, PlanQuestion, Asked, plain, Step, AskOf}
 use Rattle.mg_names.specs.Plan as steps
-use Rattle.mg_names.specs.Applies.{Applies}
+use Rattle.mg_present.specs.Applies.{Applies}
 use Rattle.mg_names.specs.IsPlan.{CanBeAsked, IsStep, GrantsOneOf}
 use Rattle.mg_names.specs.Named.{Named, named, one, round, commutator, bare, power, Word, single, times, Relation, Arrow, Question, equal, member, vanishes, central, has, Statement, group, word, subgroup, mapping, ask, fund, grant, run, cancel, report}
 use Rattle.mg_names.specs.Scope.{Object, a_group, a_word, a_subgroup, a_map, a_question, Declared, Scope, nothing, lookup, same_text}

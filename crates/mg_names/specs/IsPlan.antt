@@ -5,7 +5,7 @@ use Rattle.mg_lex.specs.declared.limits.TheConstants.{NUMBER_LIMIT}
 use Rattle.mg_words.specs.declared.procedure.Procedure.{Procedure}
 use Rattle.mg_present.specs.Ask.{Inquiry}
 use Rattle.mg_names.specs.declared.plan.TheConstants.{MOST_SEARCHES, MOST_STEPS}
-use Rattle.mg_names.specs.Applies.{Applies}
+use Rattle.mg_present.specs.Applies.{Applies}
 use Rattle.mg_names.specs.Plan.{Plan, PlanGroup, PlanQuestion, plain, AskOf, Step, fund, grant, run, cancel, report, report_facts, report_log}
 
 -- the group of the question is there, and has a name for each generator that the question's words may have

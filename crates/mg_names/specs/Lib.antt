@@ -1,6 +1,5 @@
 pub mod Plan
 pub mod Values
-pub mod Applies
 pub mod IsPlan
 pub mod Named
 pub mod Scope

@@ -10,7 +10,8 @@ ghost use Rattle.mg_plain.specs.Sounds.{plain_sound};
 
 use mg_certs::{Claim, Yes, YesRefused, claim_yes};
 use mg_core::{Facts, NoMemory, Records};
-use mg_derive::{Advance, Enumeration};
+use mg_derive::Enumeration;
+use mg_numbers::Advance;
 use mg_present::{Ask, Presentation};
 use mg_turn::{Outcome, Searcher, Stop, TurnEnd};
 use mg_words::Procedure;

@@ -2,3 +2,4 @@ pub mod Presentation
 pub mod Ask
 pub mod Same
 pub mod Image
+pub mod Applies

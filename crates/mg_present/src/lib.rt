@@ -6,6 +6,7 @@ mod ask;
 mod gen_map;
 mod laws;
 mod presentation;
+mod procedures;
 
 pub use ask::{Ask, MOST_GOALS, MOST_SUBGROUP_WORDS};
 pub use gen_map::{GenMap, MOST_MAPPED_LETTERS, image, image_length};
@@ -15,6 +16,7 @@ pub use laws::{
 };
 pub use mg_words::NoMemory;
 pub use presentation::{MOST_GENERATORS, MOST_RELATOR_LETTERS, MOST_RELATORS, Presentation, fits};
+pub use procedures::applies;
 
 #[cfg(test)]
 mod tests;

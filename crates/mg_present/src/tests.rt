@@ -2,7 +2,7 @@ ghost use Rattle.std.specs.Prelude.{◌≤◌, IfOk, length};
 ghost use Rattle.std.specs.List.{AllByRecursion};
 
 use super::*;
-use mg_words::{Letter, Word, Words, is_over};
+use mg_words::{Letter, Procedure, Word, Words, is_over};
 use std::alloc::{AllocError, Global};
 use std::cmp::Ordering;
 use std::test::Fail;
@@ -123,5 +123,29 @@ fn images_are_reduced(rt: HostRuntime) -> Result<(), Fail> {
     assert!(rt; is_over(2, &word));
     assert!(rt; image(alloc, &map, &word)?.letters().len() == 1);
     assert_eq!(rt; image_length(&map, &word), 3);
+    Ok(())
+}
+
+#[test]
+fn procedures_apply_to_some_asks_alone(rt: HostRuntime) -> Result<(), Fail> {
+    let alloc = rt.alloc();
+    let relators = one_word(alloc, &[A, A])?;
+    assert!(rt; fits(1, &relators));
+    let order_two = Presentation::new(1, relators);
+    let cyclic = Ask::new(order_two, Words::new(alloc), Words::new(alloc));
+    let nothing = Presentation::free(alloc, 0);
+    let trivial = Ask::new(nothing, Words::new(alloc), Words::new(alloc));
+    for (procedure, on_cyclic, on_trivial) in [
+        (Procedure::Derive, true, true),
+        (Procedure::Act, true, false),
+        (Procedure::Residue, true, false),
+        (Procedure::Rewrite, true, true),
+        (Procedure::Cosets, true, false),
+        (Procedure::Nielsen, false, true),
+        (Procedure::Recall, true, true),
+    ] {
+        assert_eq!(rt; applies(procedure, &cyclic), on_cyclic);
+        assert_eq!(rt; applies(procedure, &trivial), on_trivial);
+    }
     Ok(())
 }

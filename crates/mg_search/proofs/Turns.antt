@@ -8,7 +8,7 @@ use Rattle.mg_turn.specs.Turn.{Sound, EndFits}
 use Rattle.mg_words.specs.declared.procedure.Procedure.{Procedure}
 use Rattle.mg_words.specs.declared.procedure.Procedure.TheVariants.{Derive, Act, Residue, Rewrite, Cosets, Nielsen, Recall}
 use Rattle.mg_present.specs.Ask.{Inquiry}
-use Rattle.mg_names.specs.Applies.{Applies}
+use Rattle.mg_present.specs.Applies.{Applies}
 use Rattle.mg_certs.specs.Claim.{Fact}
 use Rattle.mg_certs.specs.Validity.{recording}
 use Rattle.mg_plain.specs.Plain.{Plain, IsPlain, searching as plain_searching}

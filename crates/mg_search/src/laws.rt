@@ -2,7 +2,7 @@
 ghost use Rattle.mg_turn.specs.Turn.{Sound};
 ghost use Rattle.mg_words.specs.declared.procedure.Procedure.{Procedure as ProcedureOf};
 ghost use Rattle.mg_present.specs.Ask.{Inquiry};
-ghost use Rattle.mg_names.specs.Applies.{Applies};
+ghost use Rattle.mg_present.specs.Applies.{Applies};
 ghost use Rattle.mg_certs.specs.Validity.{recording};
 ghost use Rattle.mg_search.specs.Search.{Search, Opens, searching};
 

@@ -14,7 +14,7 @@ use Rattle.mg_workers.specs.Run.{Row}
 use Rattle.mg_workers.specs.Rows.{EachPair}
 use Rattle.mg_workers.proofs.Pairs.{all_along, all_imply, pairs_imply}
 use Rattle.mg_present.specs.Ask.{Inquiry}
-use Rattle.mg_names.specs.Applies.{Applies}
+use Rattle.mg_present.specs.Applies.{Applies}
 use Rattle.mg_names.specs.Plan.{Plan, AskOf, Step, fund, grant, run, cancel, report, report_facts, report_log}
 use Rattle.mg_certs.specs.Claim.{Fact}
 use Rattle.mg_certs.specs.Validity.{IsValid, key_of}

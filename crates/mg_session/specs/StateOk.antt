@@ -10,7 +10,7 @@ use Rattle.mg_workers.specs.declared.held.End.{End}
 use Rattle.mg_workers.specs.declared.held.End.TheVariants as ends
 use Rattle.mg_workers.specs.Run.{Row}
 use Rattle.mg_workers.specs.Rows.{units_of}
-use Rattle.mg_names.specs.Applies.{Applies}
+use Rattle.mg_present.specs.Applies.{Applies}
 use Rattle.mg_names.specs.Plan.{Plan, AskOf}
 use Rattle.mg_certs.specs.Claim.{Fact}
 use Rattle.mg_certs.specs.Validity.{IsValid, key_of}

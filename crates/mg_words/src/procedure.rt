@@ -18,3 +18,14 @@ pub enum Procedure {
     /// Models that other searches published.
     Recall,
 }
+
+/// The procedures, in the order in which reports list them.
+pub const PROCEDURES: [Procedure; 7] = [
+    Procedure::Derive,
+    Procedure::Act,
+    Procedure::Residue,
+    Procedure::Rewrite,
+    Procedure::Cosets,
+    Procedure::Nielsen,
+    Procedure::Recall,
+];
