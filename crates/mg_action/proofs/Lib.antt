@@ -1,3 +1,9 @@
 mod Permutations
-mod Words
-mod Rows
+pub mod Words
+pub mod Rows
+mod Passing
+mod Reading
+mod Beginnings
+mod Stretches
+mod NextRanks
+mod NextTuples

@@ -64,7 +64,7 @@ pub record StandsAt (action : PermTuple) (x : ℤ) (point place : ℕ) (list : L
   pub image : get_or list place 0 ≡ get_or (perm_of_letter action x) point 0
   pub below : get_or list place 0 < action.degree
 
-generator_is : (action : PermTuple) (g : ℕ) → 1 ≤ g → perm_of_generator action g ≡ get_or action.images (g - 1) (identity action.degree)
+pub generator_is : (action : PermTuple) (g : ℕ) → 1 ≤ g → perm_of_generator action g ≡ get_or action.images (g - 1) (identity action.degree)
 generator_is action zero h = absurd (omega arith)
 generator_is action (suc n) h =
     let e : suc n - 1 ≡ n = omega arith in

@@ -1,13 +1,15 @@
 //! Actions as values.
-ghost use Rattle.std.specs.Prelude.{◌≡◌, ℕ, List, ◌∷◌, [], ◌≤◌, ◌<◌, IfOk, length, replicate, slice_index};
+ghost use Rattle.std.specs.Prelude.{◌≡◌, ℕ, List, ◌∷◌, [], ◌*◌, ◌≤◌, ◌<◌, IfOk, true, length, replicate, slice_index};
 ghost use Rattle.mg_words.specs.Letter.{IsLetterOf};
 ghost use Rattle.mg_words.specs.Word.{IsOver};
 ghost use Rattle.mg_numbers.specs.Perms.{IsPermTuple};
 ghost use Rattle.mg_action.specs.Action.{perm_of_letter, perm_of_word};
 ghost use Rattle.mg_action.specs.Number.{IsNumbered};
 ghost use Rattle.mg_action.specs.Layout.{AreImages};
+ghost use Rattle.mg_action.specs.Walk.{IsBehind};
 
 use crate::lists::{put_inverses, put_perms, with_room};
+use crate::nexts::put_next_lists;
 use mg_numbers::{MOST_NUMBER, action_block, perm_places};
 use mg_present::MOST_GENERATORS;
 use mg_words::{Letter, NoMemory};
@@ -63,7 +65,8 @@ impl Action {
     /// The action of so many generators on one point, which has number 1.
     pub fn of_one_point(alloc: Global, generators: u32) -> Result<Action, NoMemory>
         requires { generators ≤ MOST_GENERATORS }
-        ensures { IfOk result (λ action. action ≡ record { degree = 1; images = replicate generators (0 ∷ []) }) }
+        ensures { IfOk result (λ action. action ≡
+            record { degree = 1; images = replicate generators (0 ∷ []) }) }
     {
         let points = [0; MOST_GENERATORS as usize];
         Action::from_images(alloc, 1, &points[..generators as usize])
@@ -116,6 +119,26 @@ impl Action {
         put_inverses(block.size, &self.images, &mut self.inverses);
     }
 
+    // Puts the first action of the same degree behind all those that have the same first images, and tells whether
+    // there is one; else all permutations are the identity.
+    pub(crate) fn put_next(&mut self, depth: usize) -> bool
+        requires some { 1 ≤ depth }
+        requires whole { depth ≤ length self.old.images * self.old.degree }
+        ensures count { length self.new.images ≡ length self.old.images }
+        ensures next { result ≡ true → (number : ℕ) → (after : ℕ) →
+            IsNumbered (length self.old.images) self.old number →
+            IsBehind self.old.degree (length self.old.images) depth number after →
+            IsNumbered (length self.old.images) self.new after }
+    {
+        put_next_lists(
+            self.degree,
+            self.generators,
+            self.images.as_mut_slice(),
+            self.inverses.as_mut_slice(),
+            depth,
+        )
+    }
+
     // Where the letters of a word take a point, one after another.
     #[tactic(auto, using(crate::proofs::Words::image_step, crate::proofs::Words::image_end))]
     pub(crate) fn image(&self, word: &[Letter], point: u32) -> u32
@@ -131,7 +154,7 @@ impl Action {
     }
 
     // Where a letter takes a point.
-    fn letter_image(&self, letter: Letter, point: u32) -> u32
+    pub(crate) fn letter_image(&self, letter: Letter, point: u32) -> u32
         requires letter { IsLetterOf (length self.now.images) letter }
         requires point { point < self.now.degree }
         ensures image { result ≡ slice_index (perm_of_letter self.now letter) point }

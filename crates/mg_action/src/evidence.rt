@@ -1,5 +1,5 @@
 //! Whether permutations are an action of a group, and what an action refutes.
-ghost use Rattle.std.specs.Prelude.{◌≡◌, ◌↔◌, ◌≤◌, IsTrue, length};
+ghost use Rattle.std.specs.Prelude.{◌≡◌, ◌↔◌, ℕ, ◌<◌, ◌≤◌, IsTrue, None, Some, [], false, length};
 ghost use Rattle.std.specs.List.{AllByRecursion};
 ghost use Rattle.mg_words.specs.Word.{IsOver, letters_of};
 ghost use Rattle.mg_action.specs.Permutation.{identity};
@@ -25,11 +25,49 @@ pub fn refutes(ask: &Ask, goal: u32, action: &Action) -> bool
 {
     let goals = ask.goals();
     let place = goal as usize;
-    if place >= goals.len() || !is_action(ask.group(), action) {
+    if place >= goals.len() || !may_refute(ask, action) {
         return false;
     }
-    all_fix_zero(ask.subgroup().as_slice(), action)
-        && action.image(goals.at(place).letters(), 0) != 0
+    action.image(goals.at(place).letters(), 0) != 0
+}
+
+/// The place, from 0, of the first goal that the action refutes, if it refutes one. It takes no memory.
+pub(crate) fn first_refuted(ask: &Ask, action: &Action) -> Option<u32>
+    ensures none { result ≡ None → (k : ℕ) → Refutes ask.now k action.now → ⊥ }
+    ensures refutes { (goal : ℕ) → result ≡ Some goal → Refutes ask.now goal action.now }
+    ensures least { (goal : ℕ) → result ≡ Some goal →
+        (k : ℕ) → k < goal → Refutes ask.now k action.now → ⊥ }
+{
+    let goals = ask.goals();
+    if !may_refute(ask, action) {
+        return None;
+    }
+    for place in 0..goals.len() {
+        if action.image(goals.at(place).letters(), 0) != 0 {
+            return Some(place as u32);
+        }
+    }
+    None
+}
+
+/// Whether one of the words has a letter.
+pub(crate) fn has_letters(words: &[Word]) -> bool
+    ensures { result ≡ false → AllByRecursion (λ w. w ≡ []) (letters_of words.now) }
+{
+    for word in words {
+        if !word.letters().is_empty() {
+            return true;
+        }
+    }
+    false
+}
+
+// Whether it is an action of the group in which every subgroup word fixes the point 0.
+fn may_refute(ask: &Ask, action: &Action) -> bool
+    ensures { IsTrue result ↔ (IsAction ask.now.group action.now ×
+        AllByRecursion (λ w. image_of_zero action.now w ≡ 0) ask.now.subgroup) }
+{
+    is_action(ask.group(), action) && all_fix_zero(ask.subgroup().as_slice(), action)
 }
 
 // Whether every word fixes every point.

@@ -106,7 +106,7 @@ fn push_inverse(perm: &[u32], list: &mut Vec<u32>)
 }
 
 // Puts the inverse of a permutation.
-fn put_inverse(perm: &[u32], out: &mut [u32])
+pub(crate) fn put_inverse(perm: &[u32], out: &mut [u32])
     requires perm { IsPerm (length perm.now) perm.now }
     requires fits { length out.old ≡ length perm.now }
     requires points { length perm.now < 2 ^ 32 }

@@ -155,3 +155,37 @@ fn images_are_whole_permutations(rt: HostRuntime) -> Result<(), Fail> {
     assert!(rt; !are_images(alloc, 2, &[0, 1, 0])?);
     Ok(())
 }
+
+// A search in turns of so many units, once it has found an action with a number up to `most`; else no memory.
+fn found(alloc: Global, ask: Ask, turn: u64, most: u64) -> Result<Enumeration, NoMemory> {
+    if ask.group().generators() == 0 || turn == 0 || turn > 1_024 || most > 1_000_000 {
+        return Err(AllocError);
+    }
+    let mut search = Enumeration::start(alloc, ask)?;
+    while search.cursor() < most {
+        if let Advance::Found { spent: _ } = search.advance(turn) {
+            return Ok(search);
+        }
+    }
+    Err(AllocError)
+}
+
+#[test]
+fn turns_find_the_first_action(rt: HostRuntime) -> Result<(), Fail> {
+    let alloc = rt.alloc();
+    for turn in [1, 7, 1_024] {
+        let search = found(alloc, symmetric(alloc, &[], &[B])?, turn, 2_000)?;
+        assert_eq!(rt; search.cursor(), 15);
+    }
+    Ok(())
+}
+
+#[test]
+fn a_search_lends_what_it_found(rt: HostRuntime) -> Result<(), Fail> {
+    let alloc = rt.alloc();
+    let search = found(alloc, symmetric(alloc, &[&[A]], &[A, B])?, 4, 2_000)?;
+    assert_eq!(rt; search.goal(), 0);
+    assert_eq!(rt; search.action().images(), [0, 2, 1, 1, 2, 0].as_slice());
+    assert_eq!(rt; search.ask().goals().len(), 1);
+    Ok(())
+}

@@ -1,1 +1,5 @@
-mod Sums
+pub mod Sums
+mod Found
+mod Raises
+mod Stretches
+mod Tallies

@@ -1,2 +1,6 @@
 pub mod Map
 pub mod Number
+pub mod Exponents
+pub mod Kept
+pub mod Walk
+pub mod Search

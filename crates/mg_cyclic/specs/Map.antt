@@ -31,3 +31,7 @@ pub record Refutes (ask : Inquiry) (goal : ℕ) (map : ResidueTuple) : Type 0 wh
   pub vanish : AllByRecursion (λ w. residue_of_word map w ≡ 0) ask.subgroup
   pub there : goal < length ask.goals
   pub remains : residue_of_word map (slice_index_or ask.goals goal []) ≢ 0
+
+-- the map refutes no goal before this one
+abbrev pub RefutesNoneBefore : Inquiry → ℕ → ResidueTuple → Type 0
+RefutesNoneBefore ask goal map = (k : ℕ) → k < goal → Refutes ask k map → ⊥

@@ -1,8 +1,8 @@
 //! Whether residues are a map of a group, and what a map refutes.
-ghost use Rattle.std.specs.Prelude.{◌≡◌, ◌↔◌, IsTrue, length};
+ghost use Rattle.std.specs.Prelude.{◌≡◌, ◌↔◌, ℕ, IfSome, IfNone, IsTrue, length};
 ghost use Rattle.std.specs.List.{AllByRecursion};
 ghost use Rattle.mg_words.specs.Word.{IsOver, letters_of};
-ghost use Rattle.mg_cyclic.specs.Map.{residue_of_word, IsMap, Refutes};
+ghost use Rattle.mg_cyclic.specs.Map.{residue_of_word, IsMap, Refutes, RefutesNoneBefore};
 
 use crate::residues::Residues;
 use mg_present::{Ask, Presentation};
@@ -28,6 +28,20 @@ pub fn refutes(ask: &Ask, goal: u32, map: &Residues) -> bool
         return false;
     }
     all_vanish(ask.subgroup().as_slice(), map) && map.residue(goals.at(place).letters()) != 0
+}
+
+// The least goal, from 0, that the map refutes. It takes no memory.
+pub(crate) fn first_refuted(ask: &Ask, map: &Residues) -> Option<u32>
+    ensures some { IfSome result (λ goal. Refutes ask.now goal map.now) }
+    ensures least { IfSome result (λ goal. RefutesNoneBefore ask.now goal map.now) }
+    ensures none { IfNone result ((goal : ℕ) → Refutes ask.now goal map.now → ⊥) }
+{
+    for goal in 0..ask.goals().len() as u32 {
+        if refutes(ask, goal, map) {
+            return Some(goal);
+        }
+    }
+    None
 }
 
 // Whether every word sums to 0.

@@ -1,5 +1,5 @@
 //! Maps to residues as values.
-ghost use Rattle.std.specs.Prelude.{◌≡◌, ◌+◌, ◌%◌, ◌≤◌, ◌<◌, IfOk, All, length, replicate};
+ghost use Rattle.std.specs.Prelude.{◌≡◌, ◌+◌, ◌%◌, ◌^◌, ◌≤◌, ◌<◌, false, IsTrue, IfOk, All, length, replicate, slice_index, set};
 ghost use Rattle.mg_words.specs.Letter.{IsLetterOf};
 ghost use Rattle.mg_words.specs.Word.{IsOver};
 ghost use Rattle.mg_numbers.specs.Residues.{IsResidueTuple};
@@ -87,6 +87,42 @@ impl Residues {
         let block = residue_block(number, self.images.len() as u32);
         self.modulus = block.size;
         residues_of(block.index, block.size, &mut self.images);
+    }
+
+    // Raises the residue at a place by one, and the last one to 0; whether it wasn't the last one.
+    pub(crate) fn raise(&mut self, place: usize) -> bool
+        requires { place < length self.old.residues }
+        ensures up { IsTrue result →
+            slice_index self.old.residues place + 1 < self.old.modulus }
+        ensures raised { IsTrue result → self.new ≡ record {
+          modulus = self.old.modulus;
+          residues = set self.old.residues place (slice_index self.old.residues place + 1);
+        } }
+        ensures last { result ≡ false →
+            slice_index self.old.residues place + 1 ≡ self.old.modulus }
+        ensures around { result ≡ false → self.new ≡ record {
+          modulus = self.old.modulus;
+          residues = set self.old.residues place 0;
+        } }
+    {
+        let above = self.images[place] + 1;
+        if above < self.modulus {
+            self.images[place] = above;
+            return true;
+        }
+        self.images[place] = 0;
+        false
+    }
+
+    // Goes to the next modulus with the same residues.
+    pub(crate) fn enlarge(&mut self)
+        requires { self.old.modulus + 1 < 2 ^ 32 }
+        ensures { self.new ≡ record {
+          modulus = self.old.modulus + 1;
+          residues = self.old.residues;
+        } }
+    {
+        self.modulus += 1;
     }
 
     // The residue of a word.

@@ -5,6 +5,7 @@ ghost use Rattle.mg_present.specs.Ask.{IsReducedOver};
 ghost use Rattle.mg_present.specs.Presentation.{IsRelator};
 
 use super::*;
+use mg_numbers::Advance;
 use mg_present::{Ask, Presentation};
 use mg_words::{Letter, Word, Words, is_over, is_reduced};
 use std::alloc::{AllocError, Global};
@@ -137,5 +138,64 @@ fn a_group_without_generators(rt: HostRuntime) -> Result<(), Fail> {
     let ask = ask_of(alloc, 0, &[&[]], &[], &[])?;
     assert!(rt; is_map(ask.group(), &map));
     assert!(rt; !refutes(&ask, 0, &map));
+    Ok(())
+}
+
+// The number at which a search with turns of so many units finds a map, its modulus, its residues and its goal; or
+// None where it finds none up to `most`.
+fn finds(
+    alloc: Global,
+    ask: Ask,
+    turn: u64,
+    number: u64,
+    modulus: u32,
+    residues: &[u32],
+) -> Result<bool, NoMemory> {
+    if ask.group().generators() == 0 || turn == 0 || turn > 1_024 || number > 1_000 {
+        return Err(AllocError);
+    }
+    let mut search = Enumeration::start(alloc, ask)?;
+    for _turn in 0..1_000 {
+        if search.cursor() > 1_000 {
+            return Ok(false);
+        }
+        if let Advance::Found { .. } = search.advance(turn) {
+            let found = search.residues();
+            return Ok(
+                search.cursor() == number
+                    && search.goal() == 0
+                    && found.modulus() == modulus
+                    && found.images() == residues,
+            );
+        }
+    }
+    Ok(false)
+}
+
+#[test]
+fn the_first_map_is_found(rt: HostRuntime) -> Result<(), Fail> {
+    let alloc = rt.alloc();
+    assert!(rt; finds(alloc, symmetric(alloc, &[], &[A])?, 1, 3, 2, &[1, 0])?);
+    assert!(rt; finds(alloc, symmetric(alloc, &[], &[A])?, 7, 3, 2, &[1, 0])?);
+    let free = ask_of(alloc, 2, &[], &[&[A, A], &[A, B]], &[A])?;
+    assert!(rt; finds(alloc, free, 1_024, 4, 2, &[1, 1])?);
+    let cyclic = ask_of(alloc, 1, &[&[A, A, A, A]], &[], &[A, A])?;
+    assert!(rt; finds(alloc, cyclic, 1, 7, 4, &[1])?);
+    Ok(())
+}
+
+#[test]
+fn stretches_are_passed(rt: HostRuntime) -> Result<(), Fail> {
+    let alloc = rt.alloc();
+    for turn in [1, 7, 1_024] {
+        let ask = ask_of(
+            alloc,
+            2,
+            &[&[A, A, A, A, A, A], &[B, B, B, B, B, B, B, B, B]],
+            &[&[A]],
+            &[B, B, B],
+        )?;
+        assert!(rt; finds(alloc, ask, turn, 205, 9, &[0, 1])?);
+    }
     Ok(())
 }

@@ -1,4 +1,4 @@
-mod BlocksNth
+pub mod BlocksNth
 mod BlocksLex
 mod ResiduesRank
 pub mod PermsRank
@@ -10,6 +10,8 @@ pub mod PermsLaws
 mod BlocksSteps
 mod PermsSteps
 mod BlocksCounts
+pub mod Beginnings
+pub mod BeginningsPerms
 pub mod TextsPlain
 mod TextsSteps
 pub mod TextsValues

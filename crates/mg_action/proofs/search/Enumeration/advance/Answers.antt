@@ -1,0 +1,30 @@
+use Rattle.std.proofs.Common.{◌≡◌, ℕ, ◌+◌, ◌-◌, ap, refl, subst, arith}
+use Rattle.mg_action.specs.Number.{IsNumbered}
+use Rattle.mg_action.proofs.Passing.{none_from, finds_first}
+use Rattle.mg_action.proofs.search.Enumeration.advance.Goals as goal
+
+pub returns-clause-more : goal.returns-clause-more
+returns-clause-more c = λ _.
+    let now = c.loop-self.self-inside in record {
+      all = refl;
+      none = none_from c.args.self.now.ask now.ask c.args.self.now.cursor (c.args.self.now.cursor + c.args.units) now.walk.next c.loop-self.invariant.ask
+          (omega (arith, ap (λ v. v.cursor) c.self.view_is)) c.loop-self.invariant.walks.none;
+    }
+
+pub returns-clause-none : goal.returns-clause-none
+returns-clause-none c = λ _.
+    let now = c.loop-self.self-inside in
+    none_from now.ask now.ask 0 (c.self.inside.cursor + c.args.units) now.walk.next refl (omega arith) c.loop-self.invariant.walks.none
+
+pub returns-in-Some-clause-found : goal.returns-in-Some-clause-found
+returns-in-Some-clause-found c = λ spent e.
+    let now = c.loop-self.self-inside in
+    let goal = c.in-Some.goal in
+    let stays : c.step.new.self.next ≡ now.walk.next = c.step.ensures.stays goal c.in-Some.is in
+    let s : now.walk.next - c.args.self.now.cursor ≡ spent = let f : c.step.new.self.next - now.cursor ≡ spent = cc e in omega (arith, f, stays, c.loop-self.invariant.cursor) in
+    finds_first c.args.self.now.ask now.ask c.step.new.self.action goal c.args.self.now.cursor c.args.units now.walk.next spent c.loop-self.invariant.ask
+    (omega (arith, c.loop-self.invariant.ahead, c.loop-self.invariant.cursor)) (omega (arith, ap (λ v. v.cursor) c.self.view_is)) c.loop-self.invariant.walks.none
+    (subst (λ (n : ℕ). IsNumbered now.ask.group.generators c.step.new.self.action n) stays (c.step.ensures.numbered goal c.in-Some.is)) (c.step.ensures.refutes goal c.in-Some.is) s
+
+pub returns-in-Some-clause-found_refutes : goal.returns-in-Some-clause-found_refutes
+returns-in-Some-clause-found_refutes c = λ _ _. c.step.ensures.refutes c.in-Some.goal c.in-Some.is
