@@ -1,7 +1,7 @@
-pub mod Histories
-pub mod Keeps
-pub mod Views
-pub mod Allowed
-pub mod Commits
-pub mod Deals
-pub mod Points
+mod Histories
+mod Keeps
+mod Views
+mod Allowed
+mod Commits
+mod Deals
+mod Points

@@ -31,9 +31,11 @@ impl<R: Record> Model for Board<R> {
 
     ghost Value = { BoardState (EntryOf R) };
 
-    ghost view = { λ b. opened_as b.table.shared.table_id b.table.shared.key.0.value b.table.shared.key.1 };
+    ghost view = { λ b. opened_as b.table.shared.table_id
+        b.table.shared.key.0.value b.table.shared.key.1 };
 
-    ghost invariant = { λ b. (b.table.shared.table_id.words ≡ 2) × (b.table.shared.table_id.slots ≡ 1) };
+    ghost invariant = { λ b. (b.table.shared.table_id.words ≡ 2)
+        × (b.table.shared.table_id.slots ≡ 1) };
 }
 
 /// What became of an entry.
@@ -74,8 +76,8 @@ impl<R: Record> Board<R> {
         requires number { entry.pass ≡ pass.old.number }
         requires kept { entry.dropped ≡ false }
         requires few { length entry.records ≤ 2 }
-        requires of_key { AreOfKey R.settled key.now entry.records }
-        ensures ok { IfOk result (CommitsAt R.settled key.now entry pass.old pass.new) }
+        requires of_key { AreOfKey R.recording.settles key.now entry.records }
+        ensures ok { IfOk result (CommitsAt R.recording.settles key.now entry pass.old pass.new) }
         ensures more { IfOk result (Stamps entry pass.old pass.new) }
         ensures err { OnErr result (pass.new ≡ pass.old) }
     {
@@ -97,7 +99,7 @@ impl<R: Record> Board<R> {
         most: u32,
     ) -> Result<Facts<R>, NoMemory>
         requires board { pass.old.board ≡ self.now.board }
-        ensures ok { IfOk result (Handed R.modelled pass.new.seen group.now after most) }
+        ensures ok { IfOk result (Handed R.recording.model_of pass.new.seen group.now after most) }
         ensures more { SeesMore pass_of pass.old pass.new [] }
     {
         self.take_turn(rt, &mut pass.seat);
@@ -193,9 +195,10 @@ impl<R: Record> Board<R> {
         requires number { entry.pass ≡ seat.old.me.0.number }
         requires kept { entry.dropped ≡ false }
         requires few { length entry.records ≤ 2 }
-        requires of_key { AreOfKey R.settled key.now entry.records }
+        requires of_key { AreOfKey R.recording.settles key.now entry.records }
         ensures table { seat.new.table_id ≡ seat.old.table_id }
-        ensures ok { IfOk result (CommitsInTurn R.settled key.now entry seat.old.me seat.new.me) }
+        ensures ok { IfOk result (CommitsInTurn R.recording.settles key.now entry
+            seat.old.me seat.new.me) }
         ensures err { OnErr result (seat.new.me ≡ seat.old.me) }
     {
         let mut book = self.take_slot(seat);
@@ -220,7 +223,7 @@ impl<R: Record> Board<R> {
         ensures table { seat.new.table_id ≡ seat.old.table_id }
         ensures same { seat.new.me ≡ seat.old.me }
         ensures ok { (log : List (EntryOf R)) → HasTurn seat.old.me log
-            → IfOk result (Handed R.modelled log group.now after most) }
+            → IfOk result (Handed R.recording.model_of log group.now after most) }
     {
         let book = self.take_slot(seat);
         let facts = book.models(alloc, group, after, most);

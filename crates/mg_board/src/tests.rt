@@ -1,5 +1,5 @@
 //! A board over marks.
-ghost use Rattle.std.specs.Prelude.{◌≡◌, ◌+◌, ◌≤◌, Option, Some, None, true, false, refl, if◌then◌else◌, IfOk, IfSome, length, [], ◌∷◌};
+ghost use Rattle.std.specs.Prelude.{◌≡◌, ◌+◌, ◌≤◌, Option, Some, None, true, false, if◌then◌else◌, IfOk, IfSome, length, [], ◌∷◌};
 ghost use Rattle.std.specs.List.{AllByRecursion};
 ghost use Rattle.std.proofs.Common.{rules};
 ghost use Rattle.std.proofs.lemmas.Map.Lookups.{exact_unsigned};
@@ -25,11 +25,11 @@ impl Record for Mark {
 
     type Group = u32;
 
-    ghost valid = { λ _. Unit {0} };
-
-    ghost settled = { λ m. (if m.settling then Some m.number else None) };
-
-    ghost modelled = { λ m. (if m.settling then None else Some m.number) };
+    ghost recording = { record {
+      valid = λ _. Unit {0};
+      settles = λ m. (if m.settling then Some m.number else None);
+      model_of = λ m. (if m.settling then None else Some m.number);
+    } };
 
     fn settles(&self) -> Option<&u32> {
         if self.settling {
@@ -54,11 +54,11 @@ impl Record for Mark {
         })
     }
 
-    ghost exact_keys = { exact_unsigned };
-
-    ghost exact_groups = { exact_unsigned };
-
-    ghost one_of_both = { λ m _. Prim.search rules };
+    ghost lawful = { record {
+      exact_keys = exact_unsigned;
+      exact_groups = exact_unsigned;
+      one_of_both = λ m _. Prim.search rules;
+    } };
 }
 
 /// The entry of a turn that found nothing.
@@ -78,7 +78,8 @@ fn empty(alloc: Global, pass: u32, turn: u64) -> Entry<Mark>
 /// The entry of a turn that found a mark of 7.
 fn marked(alloc: Global, pass: u32, turn: u64, settling: bool) -> Result<Entry<Mark>, NoMemory>
     ensures entry { IfOk result (λ e. (e.pass ≡ pass) × (e.dropped ≡ false)) }
-    ensures mark { IfOk result (λ e. e.records ≡ (record { settling = settling; number = 7 }) ∷ []) }
+    ensures mark { IfOk result (λ e.
+        e.records ≡ (record { settling = settling; number = 7 }) ∷ []) }
 {
     let mut entry = empty(alloc, pass, turn);
     entry.records.push(Mark {
@@ -112,7 +113,8 @@ fn put<W: Wait>(
     requires number { entry.pass ≡ n }
     requires kept { entry.dropped ≡ false }
     requires few { length entry.records ≤ 1 }
-    requires of_key { AllByRecursion (λ r. IfSome (if r.settling then Some r.number else None) (λ k. k ≡ 7)) entry.records }
+    requires of_key { AllByRecursion (λ r.
+        IfSome (if r.settling then Some r.number else None) (λ k. k ≡ 7)) entry.records }
     ensures alone { IsAlone board.now n pass.new }
 {
     let receipt = board.commit(rt, pass, &7, entry)?;
@@ -153,7 +155,8 @@ type Three = (Board<Mark>, Pass<Mark>, Pass<Mark>, Pass<Mark>);
 /// Opens a book with three passes.
 fn opened(alloc: Global, book: Book<Mark>) -> Result<Three, NoMemory>
     ensures three { IfOk result (λ r. r.0.passes ≡ 3) }
-    ensures alone { IfOk result (λ r. IsAlone r.0 0 r.1 × IsAlone r.0 1 r.2 × IsAlone r.0 2 r.3) }
+    ensures alone { IfOk result (λ r.
+        IsAlone r.0 0 r.1 × IsAlone r.0 1 r.2 × IsAlone r.0 2 r.3) }
 {
     let (board, mut passes) = Board::start(alloc, book, 3)?;
     let two = last(&board, &mut passes, 2);
@@ -162,34 +165,62 @@ fn opened(alloc: Global, book: Book<Mark>) -> Result<Three, NoMemory>
     Ok((board, zero, one, two))
 }
 
-/// The pass and the turn of the next entry, whether it was dropped, and how many records it has.
-fn next(entries: &mut Entries<'_, Mark>) -> Option<(u32, u64, bool, usize)> {
+/// Whether the next entry is this turn of the pass, which was kept and found nothing.
+fn is_next(entries: &mut Entries<'_, Mark>, pass: u32, turn: u64) -> bool {
     match entries.next() {
-        Some(entry) => Some((entry.pass, entry.turn, entry.dropped, entry.records.len())),
-        None => None,
+        Some(entry) => {
+            (entry.pass, entry.turn) == (pass, turn) && !entry.dropped && entry.records.is_empty()
+        }
+        None => false,
+    }
+}
+
+/// Whether the next entry is the first turn of the pass, dropped or not, with so many records.
+fn is_first_turn(
+    entries: &mut Entries<'_, Mark>,
+    pass: u32,
+    dropped: bool,
+    records: usize,
+) -> bool {
+    match entries.next() {
+        Some(entry) => {
+            (entry.pass, entry.turn) == (pass, 0)
+                && entry.dropped == dropped
+                && entry.records.len() == records
+        }
+        None => false,
     }
 }
 
 /// Whether the book has two entries, of passes 1 and 2, the second one dropped.
 fn has_one_and_a_dropped_one(book: &Book<Mark>) -> bool {
     let mut entries = book.entries();
-    next(&mut entries) == Some((1, 0, false, 1))
-        && next(&mut entries) == Some((2, 0, true, 0))
-        && next(&mut entries).is_none()
+    is_first_turn(&mut entries, 1, false, 1)
+        && is_first_turn(&mut entries, 2, true, 0)
+        && entries.next().is_none()
 }
 
-/// Pass 1 settles 7, so an entry of pass 2 for 7 is dropped by fact 1.
-fn drops_for_a_settled_key<W: Wait>(rt: &W, alloc: Global) -> Result<bool, NoMemory> {
+/// Whether an entry was dropped at place 2 by fact 1.
+fn is_dropped_second(committed: Committed) -> bool {
+    match committed {
+        Committed::Kept { .. } => false,
+        Committed::Dropped { place, by } => place == 2 && by == 1,
+    }
+}
+
+/// Pass 1 settles 7, and an entry of pass 2 for 7 follows, of which it is told what became of it.
+fn settle_twice<W: Wait>(rt: &W, alloc: Global) -> Result<(Committed, Book<Mark>), NoMemory> {
     let (board, zero, mut one, mut two) = opened(alloc, Book::new(alloc))?;
     put(rt, &board, &mut one, 1, marked(alloc, 1, 0, true)?)?;
     let answer = put(rt, &board, &mut two, 2, marked(alloc, 2, 0, true)?)?;
-    let book = closed(board, zero, one, two);
-    Ok(answer == Committed::Dropped { place: 2, by: 1 } && has_one_and_a_dropped_one(&book))
+    Ok((answer, closed(board, zero, one, two)))
 }
 
 #[test]
 fn an_entry_for_a_settled_key_is_dropped(rt: HostRuntime) -> Result<(), Fail> {
-    assert!(rt; drops_for_a_settled_key(&rt, rt.alloc())?);
+    let (answer, book) = settle_twice(&rt, rt.alloc())?;
+    assert!(rt; is_dropped_second(answer));
+    assert!(rt; has_one_and_a_dropped_one(&book));
     Ok(())
 }
 
@@ -223,16 +254,26 @@ fn goes_on<W: Wait>(rt: &W, alloc: Global) -> Result<Book<Mark>, NoMemory> {
     Ok(closed(board, zero, one, two))
 }
 
+/// Commits one entry more, of pass 3, and answers whether it was kept at place 4.
+fn goes_on_alone(alloc: Global, book: &mut Book<Mark>) -> Result<bool, NoMemory> {
+    let committed = book.commit(&7, empty(alloc, 3, 0))?;
+    Ok(committed == Committed::Kept { place: 4 })
+}
+
+/// Whether the book has the four entries, in order.
+fn has_four(book: &Book<Mark>) -> bool {
+    let mut entries = book.entries();
+    is_next(&mut entries, 1, 0)
+        && is_next(&mut entries, 2, 0)
+        && is_next(&mut entries, 1, 1)
+        && is_next(&mut entries, 3, 0)
+}
+
 #[test]
 fn a_book_goes_on_at_a_board_and_after_it(rt: HostRuntime) -> Result<(), Fail> {
-    let alloc = rt.alloc();
-    let mut book = goes_on(&rt, alloc)?;
-    let after = book.commit(&7, empty(alloc, 3, 0))?;
-    assert_eq!(rt; after, Committed::Kept { place: 4 });
-    let mut entries = book.entries();
-    for (pass, turn) in [(1, 0), (2, 0), (1, 1), (3, 0)] {
-        assert_eq!(rt; next(&mut entries), Some((pass, turn, false, 0)));
-    }
+    let mut book = goes_on(&rt, rt.alloc())?;
+    assert!(rt; goes_on_alone(rt.alloc(), &mut book)?);
+    assert!(rt; has_four(&book));
     Ok(())
 }
 
@@ -337,6 +378,16 @@ fn are_in_order(book: &Book<Mark>, pass: u32, turns: u64) -> bool {
     due == turns
 }
 
+/// Whether what two threads were told and the book are one history, of so many entries of each.
+fn are_one(book: &Book<Mark>, places: &[u64], others: &[u64], count: u64) -> bool
+    requires few { count ≤ 1000 }
+{
+    book.count() == 2 * count
+        && are_all(places, others, 2 * count)
+        && are_in_order(book, 1, count)
+        && are_in_order(book, 2, count)
+}
+
 /// What two threads commit is one history.
 fn is_one_history<X: Threads + Wait + Sync>(
     rt: &X,
@@ -350,12 +401,7 @@ fn is_one_history<X: Threads + Wait + Sync>(
     let (one, places) = first;
     let (two, others) = second;
     let book = closed(board, zero, one, two);
-    Ok(
-        book.count() == 2 * count
-            && are_all(places.as_slice(), others.as_slice(), 2 * count)
-            && are_in_order(&book, 1, count)
-            && are_in_order(&book, 2, count),
-    )
+    Ok(are_one(&book, places.as_slice(), others.as_slice(), count))
 }
 
 #[test]

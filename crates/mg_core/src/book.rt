@@ -40,7 +40,8 @@ impl<R: Record> Model for Book<R> {
 
     ghost view = { λ a. log_of a.facts.items a.streaks.items };
 
-    ghost invariant = { λ a. IsBook R.valid R.settled R.Key.cmp a.facts.items a.streaks.items a.count a.places.items };
+    ghost invariant = { λ a. IsBook R.recording.valid R.recording.settles R.Key.cmp
+        a.facts.items a.streaks.items a.count a.places.items };
 }
 
 impl<R: Record> Book<R> {
@@ -78,9 +79,9 @@ impl<R: Record> Book<R> {
     pub fn commit(&mut self, key: &R::Key, entry: Entry<R>) -> Result<Committed, NoMemory>
         requires kept { entry.dropped ≡ false }
         requires few { length entry.records ≤ 2 }
-        requires of_key { AllByRecursion (λ r. IfSome (R.settled r)
+        requires of_key { AllByRecursion (λ r. IfSome (R.recording.settles r)
             (λ k. k ≡ key.now)) entry.records }
-        ensures ok { IfOk result (Commits R.settled key.now self.old entry self.new) }
+        ensures ok { IfOk result (Commits R.recording.settles key.now self.old entry self.new) }
         ensures err { OnErr result (self.new ≡ self.old) }
     {
         match place_for(self.facts.as_slice(), self.places.as_slice(), key) {
@@ -107,9 +108,10 @@ impl<R: Record> Book<R> {
     /// there is no memory the log stays as it was.
     pub fn commit_next(&mut self, _key: &R::Key) -> Result<(), NoMemory>
         requires last { (last : EntryOf R) × IsLastEmpty self.old last }
-        requires unsettled { Settled R.settled self.old _key.now → ⊥ }
+        requires unsettled { Settled R.recording.settles self.old _key.now → ⊥ }
         ensures ok { OnOk result ((last : EntryOf R) → IsLastEmpty self.old last →
-            Commits R.settled _key.now self.old (next_of last) self.new (Kept (length self.new))) }
+            Commits R.recording.settles _key.now self.old (next_of last) self.new
+            (Kept (length self.new))) }
         ensures err { OnErr result (self.new ≡ self.old) }
     {
         let Some(count) = self.count.checked_add(1) else {
@@ -122,8 +124,9 @@ impl<R: Record> Book<R> {
 
     /// The first fact that settles the key, with its number; None exactly where there is none.
     pub fn verdict(&self, key: &R::Key) -> Option<(u64, &R)>
-        ensures none { IfNone result (Settled R.settled self.now key.now → ⊥) }
-        ensures some { IfSome result (λ v. VerdictIn R.settled self.now key.now v.0 v.1.now) }
+        ensures none { IfNone result (Settled R.recording.settles self.now key.now → ⊥) }
+        ensures some { IfSome result (λ v.
+            VerdictIn R.recording.settles self.now key.now v.0 v.1.now) }
     {
         match place_for(self.facts.as_slice(), self.places.as_slice(), key) {
             Ok(place) => Some((place as u64 + 1, &self.facts[place])),
@@ -150,7 +153,7 @@ impl<R: Record> Book<R> {
     /// How many facts there are. Each of them is valid.
     pub fn facts(&self) -> u64
         ensures count { result ≡ length (facts_of self.now) }
-        ensures valid { AllByRecursion R.valid (facts_of self.now) }
+        ensures valid { AllByRecursion R.recording.valid (facts_of self.now) }
     {
         self.records().len() as u64
     }
@@ -158,7 +161,7 @@ impl<R: Record> Book<R> {
     /// The facts, in the order of their numbers. Each of them is valid.
     pub fn records(&self) -> &[R]
         ensures facts { result.now ≡ facts_of self.now }
-        ensures valid { AllByRecursion R.valid result.now }
+        ensures valid { AllByRecursion R.recording.valid result.now }
     {
         self.facts.as_slice()
     }
@@ -178,7 +181,7 @@ impl<R: Record> Book<R> {
         after: u64,
         most: u32,
     ) -> Result<Facts<R>, NoMemory>
-        ensures { IfOk result (Handed R.modelled self.now group.now after most) }
+        ensures { IfOk result (Handed R.recording.model_of self.now group.now after most) }
     {
         models_above(alloc, self.records(), group, after, most)
     }
@@ -204,9 +207,9 @@ impl<R: Record> Book<R> {
     fn put_found(&mut self, key: &R::Key, entry: Entry<R>) -> Result<u64, NoMemory>
         requires kept { entry.dropped ≡ false }
         requires few { length entry.records ≤ 2 }
-        requires of_key { AllByRecursion (λ r. IfSome (R.settled r)
+        requires of_key { AllByRecursion (λ r. IfSome (R.recording.settles r)
             (λ k. k ≡ key.now)) entry.records }
-        requires unsettled { Settled R.settled self.old key.now → ⊥ }
+        requires unsettled { Settled R.recording.settles self.old key.now → ⊥ }
         ensures ok { OnOk result (self.new ≡ self.old ++ entry ∷ []) }
         ensures place { IfOk result (λ place. place ≡ length self.new) }
         ensures err { OnErr result (self.new ≡ self.old) }

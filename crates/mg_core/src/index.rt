@@ -9,8 +9,9 @@ use std::cmp::Ordering;
 
 /// How the key that is settled by the fact at the place compares with this one.
 fn compare_at<R: Record>(facts: &[R], place: usize, key: &R::Key) -> Ordering
-    requires { (k : R.Key) × PointsTo R.settled facts.now k place }
-    ensures { (k : R.Key) → PointsTo R.settled facts.now k place → result ≡ R.Key.cmp k key.now }
+    requires { (k : R.Key) × PointsTo R.recording.settles facts.now k place }
+    ensures { (k : R.Key) → PointsTo R.recording.settles facts.now k place →
+        result ≡ R.Key.cmp k key.now }
 {
     match facts[place].settles() {
         Some(settled) => settled.cmp(key),
@@ -24,9 +25,10 @@ pub(crate) fn place_for<R: Record>(
     places: &[usize],
     key: &R::Key,
 ) -> Result<usize, usize>
-    requires { IsIndexed R.settled R.Key.cmp facts.now places.now }
-    ensures found { IfOk result (PointsTo R.settled facts.now key.now) }
-    ensures missed { IfErr result (λ at. IsBetween R.settled R.Key.cmp facts.now places.now key.now at at) }
+    requires { IsIndexed R.recording.settles R.Key.cmp facts.now places.now }
+    ensures found { IfOk result (PointsTo R.recording.settles facts.now key.now) }
+    ensures missed { IfErr result (λ at.
+        IsBetween R.recording.settles R.Key.cmp facts.now places.now key.now at at) }
 {
     let mut low = 0;
     let mut high = places.len();
@@ -45,7 +47,7 @@ pub(crate) fn place_for<R: Record>(
 /// The place of the first of these records that settles the key, behind so many facts.
 pub(crate) fn place_among<R: Record>(records: &[R], key: &R::Key, facts: usize) -> Option<usize>
     requires { facts + length records.now < 2 ^ 64 }
-    ensures { IsPlaceOf R.settled records.now key.now facts result }
+    ensures { IsPlaceOf R.recording.settles records.now key.now facts result }
 {
     let mut place = facts;
     for record in records {

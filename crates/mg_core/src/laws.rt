@@ -17,9 +17,9 @@ pub fn facts_of_appended<R>()
 /// A log with more behind it is legal where both are, the second one behind the first.
 pub fn legal_appended<R: Record>()
     ensures { (asks : EntryOf R → Option R.Key) (before log more : List (EntryOf R)) →
-        LegalFrom R.valid R.settled asks before (log ++ more)
-        ↔ (LegalFrom R.valid R.settled asks before log ×
-        LegalFrom R.valid R.settled asks (before ++ log) more) }
+        LegalFrom R.recording.valid R.recording.settles asks before (log ++ more)
+        ↔ (LegalFrom R.recording.valid R.recording.settles asks before log ×
+        LegalFrom R.recording.valid R.recording.settles asks (before ++ log) more) }
 {}
 
 /// A commit keeps a log legal, where the entry that it leaves there is of a search for the key, and where the records
@@ -28,8 +28,9 @@ pub fn commits_keep_a_log_legal<R: Record>()
     ensures { (asks : EntryOf R → Option R.Key) (key : R.Key) (old new : List (EntryOf R))
         (entry : EntryOf R) (committed : CommittedTo) →
         entry.dropped ≡ false → asks (entry_put entry committed) ≡ Some key →
-        AllByRecursion R.valid entry.records →
-        AllByRecursion (λ r. IfSome (R.settled r) (λ k. k ≡ key)) entry.records →
-        Commits R.settled key old entry new committed →
-        LegalFrom R.valid R.settled asks [] old → LegalFrom R.valid R.settled asks [] new }
+        AllByRecursion R.recording.valid entry.records →
+        AllByRecursion (λ r. IfSome (R.recording.settles r) (λ k. k ≡ key)) entry.records →
+        Commits R.recording.settles key old entry new committed →
+        LegalFrom R.recording.valid R.recording.settles asks [] old →
+        LegalFrom R.recording.valid R.recording.settles asks [] new }
 {}

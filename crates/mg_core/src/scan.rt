@@ -12,7 +12,7 @@ use std::cmp::Ordering;
 
 /// Whether the fact is a model of the group.
 fn is_model<R: Record>(fact: &R, group: &R::Group) -> bool
-    ensures { IsTrue result ↔ (R.modelled fact.now ≡ Some group.now) }
+    ensures { IsTrue result ↔ (R.recording.model_of fact.now ≡ Some group.now) }
 {
     match fact.model_of() {
         Some(modelled) => modelled.cmp(group) == Ordering::Equal,
@@ -23,7 +23,7 @@ fn is_model<R: Record>(fact: &R, group: &R::Group) -> bool
 /// How many records these are. Each is looked at, and so known to be valid.
 pub(crate) fn count_of<R: Record>(records: &[R]) -> usize
     ensures count { result ≡ length records.now }
-    ensures valid { AllByRecursion R.valid records.now }
+    ensures valid { AllByRecursion R.recording.valid records.now }
 {
     let mut count = 0;
     for record in records {
@@ -41,7 +41,7 @@ pub(crate) fn models_above<R: Record>(
     after: u64,
     most: u32,
 ) -> Result<Facts<R>, NoMemory>
-    ensures { IfOk result (HandedFrom R.modelled facts.now group.now after most) }
+    ensures { IfOk result (HandedFrom R.recording.model_of facts.now group.now after most) }
 {
     let mut records = Records::new(alloc);
     let mut upto = after;

@@ -52,7 +52,8 @@ const NOTHING: Streak = Streak {
 impl Streak {
     /// One turn, which found so many records.
     pub(crate) fn of_one(common: Common, turn: u64, records: usize) -> Streak
-        ensures streak { result ≡ record { common = common; turn = turn; records = records; more = 0 } }
+        ensures streak { result ≡
+            record { common = common; turn = turn; records = records; more = 0 } }
         ensures numbered { IsNumbered result }
     {
         Streak {

@@ -1,4 +1,2 @@
-pub mod Sounds
 pub mod Stops
-pub mod Third
 pub mod Turn

@@ -1,19 +1,14 @@
 -- Turns of searches, over any kind of search and of record.
-use Rattle.std.specs.Prelude.{◌≡◌, ℕ, ◌+◌, ◌≤◌, ◌⊎◌, Bool, true, false, Option, Some, List, [], ◌∷◌, length, IsSome}
+use Rattle.std.specs.Prelude.{◌≡◌, ℕ, ◌+◌, ◌≤◌, ◌⊎◌, Bool, true, false, Some, List, [], ◌∷◌, length, IsSome}
 use Rattle.std.specs.List.{AllByRecursion}
 use Rattle.mg_core.specs.declared.entries.Facts.{Facts}
+use Rattle.mg_core.specs.Recording.{Recording}
 use Rattle.mg_turn.specs.declared.bounds.TheConstants.{MOST_RULES, MOST_SIDE_LETTERS, MOST_LETTERS, MOST_ENTRIES, MOST_MOVES, MOST_SYMBOLS}
 use Rattle.mg_turn.specs.declared.outcome.Limit.{Limit}
 use Rattle.mg_turn.specs.declared.outcome.Limit.TheVariants.{Rules, Letters, Entries, Moves, Symbols}
 use Rattle.mg_turn.specs.declared.outcome.Outcome.{Outcome}
 use Rattle.mg_turn.specs.declared.outcome.TurnEnd.{TurnEnd}
 use Rattle.mg_turn.specs.declared.outcome.TurnEnd.TheVariants.{More, Found, Closed, Idle, Stopped, Full}
-
--- what records mean: which are valid, which key one settles, and which group one is a model of
-pub record Recording (R K G : Type 0) : Type 1 where
-  pub valid : R → Type 0
-  pub settles : R → Option K
-  pub model_of : R → Option G
 
 -- what searches mean: the key that one would settle, its group, the units it has spent, whether it goes on,
 -- how many models it wants for a number of units, and which turns it may make: from a search, for units

@@ -3,7 +3,6 @@
 #![tactic(auto)]
 
 mod bounds;
-pub mod example;
 mod outcome;
 mod searcher;
 mod stop;
@@ -14,6 +13,3 @@ pub use bounds::{
 pub use outcome::{Limit, Outcome, TurnEnd};
 pub use searcher::Searcher;
 pub use stop::{Stop, known_verdict};
-
-#[cfg(test)]
-mod tests;

@@ -1,10 +1,8 @@
 //! What a search is.
-ghost use Rattle.std.specs.Prelude.{◌≡◌, ℕ, ◌+◌, ◌≤◌, ◌^◌, Bool, true, Some, IfOk, OnOk, length};
+ghost use Rattle.std.specs.Prelude.{◌≡◌, ◌+◌, ◌≤◌, ◌^◌, true, Some, IfOk, OnOk, length};
 ghost use Rattle.std.specs.List.{AllByRecursion};
-ghost use Rattle.mg_core.specs.declared.entries.Facts.{Facts as FactsOf};
-ghost use Rattle.mg_turn.specs.declared.outcome.Outcome.{Outcome as OutcomeOf};
 ghost use Rattle.mg_turn.specs.Stops.{StopsBy};
-ghost use Rattle.mg_turn.specs.Turn.{Sound};
+ghost use Rattle.mg_turn.specs.Turn.{Searching, Sound};
 
 use crate::outcome::Outcome;
 use crate::stop::Stop;
@@ -13,35 +11,20 @@ use std::alloc::Global;
 
 /// A search for a record that settles a key, which goes on turn by turn.
 pub trait Searcher<R: Record> {
-    /// The key that the search would settle.
-    ghost key_of: { Self → R.Key };
-
-    /// The group whose models it reads.
-    ghost group_of: { Self → R.Group };
-
-    /// How many models it wants for a number of units.
-    ghost wants_of: { Self → ℕ → ℕ };
-
-    /// The units that it has spent.
-    ghost spent_of: { Self → ℕ };
-
-    /// Whether it goes on.
-    ghost is_open_of: { Self → Bool };
-
-    /// Its turns: from a search, for units and the models handed in, to an outcome and the search after.
-    ghost turns: { Self → ℕ → FactsOf R → OutcomeOf R → Self → Type 0 };
+    /// What the searches mean.
+    ghost searching: { Searching R R.Key R.Group Self };
 
     /// The key that the search would settle.
     fn key(&self) -> &R::Key
-        ensures { result.now ≡ key_of self.now };
+        ensures { result.now ≡ searching.key self.now };
 
     /// The group whose models it reads.
     fn group(&self) -> &R::Group
-        ensures { result.now ≡ group_of self.now };
+        ensures { result.now ≡ searching.group self.now };
 
     /// How many models it wants for a turn of this many units.
     fn wants(&self, units: u64) -> u32
-        ensures { result ≡ wants_of self.now units };
+        ensures { result ≡ searching.wants self.now units };
 
     /// One turn of at most this many units, with models that it wants. Where there is no memory nothing is said
     /// of the search, and it is not called again.
@@ -52,18 +35,17 @@ pub trait Searcher<R: Record> {
         facts: Facts<R>,
         stop: &mut T,
     ) -> Result<Outcome<R>, NoMemory>
-        requires is_open { is_open_of self.old ≡ true }
+        requires is_open { searching.is_open self.old ≡ true }
         requires some_units { 1 ≤ units }
-        requires in_all { spent_of self.old + units ≤ 2 ^ 62 }
-        requires few { length facts.records ≤ wants_of self.old units }
-        requires of_group { AllByRecursion (λ r. R.modelled r ≡ Some (group_of self.old)) facts.records }
-        ensures turns { IfOk result (λ outcome. turns self.old units facts outcome self.new) }
-        ensures key { OnOk result (key_of self.new ≡ key_of self.old) }
-        ensures group { OnOk result (group_of self.new ≡ group_of self.old) }
+        requires in_all { searching.spent self.old + units ≤ 2 ^ 62 }
+        requires few { length facts.records ≤ searching.wants self.old units }
+        requires of_group { AllByRecursion
+            (λ r. R.recording.model_of r ≡ Some (searching.group self.old)) facts.records }
+        ensures turns { IfOk result (λ outcome. searching.turns self.old units facts outcome self.new) }
+        ensures key { OnOk result (searching.key self.new ≡ searching.key self.old) }
+        ensures group { OnOk result (searching.group self.new ≡ searching.group self.old) }
         ensures stopped { IfOk result (λ outcome. StopsBy outcome.end (T.known stop.new)) };
 
     /// Every turn is sound.
-    ghost sound: { Sound {R = R} {K = R.Key} {G = R.Group} {S = Self}
-        (record { valid = R.valid; settles = R.settled; model_of = R.modelled })
-        (record { key = key_of; group = group_of; spent = spent_of; is_open = is_open_of; wants = wants_of; turns = turns }) };
+    ghost sound: { Sound R.recording searching };
 }

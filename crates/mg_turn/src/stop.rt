@@ -24,10 +24,10 @@ pub fn known_verdict<R: Record, T: Stop<R>>(
     stop: &mut T,
 ) -> Result<Option<Box<R>>, NoMemory>
     ensures some { IfOk result (λ found. IfSome found (λ copy.
-        (T.known stop.new ≡ Some copy.value) × R.valid copy.value ×
-        (R.settled copy.value ≡ Some key.now))) }
+        (T.known stop.new ≡ Some copy.value) × R.recording.valid copy.value ×
+        (R.recording.settles copy.value ≡ Some key.now))) }
     ensures none { IfOk result (λ found. IfNone found ((known : R) →
-        T.known stop.new ≡ Some known → R.settled known ≢ Some key.now)) }
+        T.known stop.new ≡ Some known → R.recording.settles known ≢ Some key.now)) }
     ensures err { OnErr result (IsSome (T.known stop.new)) }
 {
     let Some(known) = stop.look() else {

@@ -8,7 +8,8 @@ use Rattle.mg_core.specs.declared.entries.Entry.{Entry}
 use Rattle.mg_core.specs.declared.entries.Facts.{Facts}
 use Rattle.mg_turn.specs.declared.outcome.TurnEnd.{TurnEnd}
 use Rattle.mg_turn.specs.declared.outcome.TurnEnd.TheVariants.{More, Found, Closed, Idle, Stopped, Full}
-use Rattle.mg_turn.specs.Turn.{Recording, Searching, Sound, EndFits, is_stopped}
+use Rattle.mg_core.specs.Recording.{Recording}
+use Rattle.mg_turn.specs.Turn.{Searching, Sound, EndFits, is_stopped}
 use Rattle.mg_workers.specs.Run.{Row, Running, entry_of, row_after, end_after, leaves_at}
 use Rattle.mg_workers.specs.Rows.{EachPair, AreApart, units_of, entries_of, total_spent}
 use Rattle.mg_workers.proofs.Pairs.{all_at, all_along, pairs_same, pairs_then, pairs_imply, pairs_set, Others}

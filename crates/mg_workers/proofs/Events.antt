@@ -4,7 +4,8 @@ use Rattle.mg_core.specs.declared.entries.Entry.{Entry}
 use Rattle.mg_core.specs.declared.entries.Facts.{Facts}
 use Rattle.mg_core.proofs.Hands.{handed_of_group, handed_few}
 use Rattle.mg_turn.specs.declared.outcome.Outcome.{Outcome}
-use Rattle.mg_turn.specs.Turn.{Recording, Searching, Sound, IsSound, AreWanted}
+use Rattle.mg_core.specs.Recording.{Recording}
+use Rattle.mg_turn.specs.Turn.{Searching, Sound, IsSound, AreWanted}
 use Rattle.mg_workers.specs.Run.{Row, Running, Begins, entry_of, row_after, Event, Leads, Runs}
 use Rattle.mg_workers.specs.Rows.{EachPair, Keeps, AreFunded}
 use Rattle.mg_workers.proofs.Pairs.{all_along, all_imply, pairs_same, pairs_then, pairs_set, all_at, others_all}

@@ -3,7 +3,8 @@ use Rattle.std.proofs.Common.{◌≡◌, ℕ, zero, suc, ◌⊎◌, inl, true, L
 use Rattle.std.specs.Prelude.{slice_get, insert}
 use Rattle.std.specs.List.{AllByRecursion}
 use Rattle.mg_core.specs.declared.entries.Entry.{Entry}
-use Rattle.mg_turn.specs.Turn.{Recording, Searching}
+use Rattle.mg_core.specs.Recording.{Recording}
+use Rattle.mg_turn.specs.Turn.{Searching}
 use Rattle.mg_workers.specs.Run.{Row, Running, row_after, Finished}
 use Rattle.mg_workers.specs.Rows.{with_row}
 use Rattle.mg_workers.proofs.Events.{Happens, LeadsBy, Run}

@@ -7,7 +7,8 @@ use Rattle.mg_core.specs.Log.{IsLegal, LegalFrom}
 use Rattle.mg_core.proofs.Logs.{legal-join}
 use Rattle.mg_turn.specs.declared.outcome.TurnEnd.{TurnEnd}
 use Rattle.mg_turn.specs.declared.outcome.TurnEnd.TheVariants.{More, Found, Closed, Idle, Stopped, Full}
-use Rattle.mg_turn.specs.Turn.{Recording, Searching, Sound, EndFits, AreModels, Settles, records_of}
+use Rattle.mg_core.specs.Recording.{Recording}
+use Rattle.mg_turn.specs.Turn.{Searching, Sound, EndFits, AreModels, Settles, records_of}
 use Rattle.mg_workers.specs.Run.{Row, Running, entry_of}
 use Rattle.mg_workers.specs.Rows.{EachPair, Keeps, AreFunded, AreAsked}
 use Rattle.mg_workers.proofs.Pairs.{all_at, all_along}

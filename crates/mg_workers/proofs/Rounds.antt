@@ -12,7 +12,8 @@ use Rattle.mg_core.proofs.Logs.{facts_of-append}
 use Rattle.mg_turn.specs.declared.outcome.Outcome.{Outcome}
 use Rattle.mg_turn.specs.declared.outcome.TurnEnd.{TurnEnd}
 use Rattle.mg_turn.specs.declared.outcome.TurnEnd.TheVariants.{More, Found, Closed, Idle, Stopped, Full}
-use Rattle.mg_turn.specs.Turn.{Recording, Searching, Sound, IsSound, EndFits, records_of, goes_on, is_stopped}
+use Rattle.mg_core.specs.Recording.{Recording}
+use Rattle.mg_turn.specs.Turn.{Searching, Sound, IsSound, EndFits, records_of, goes_on, is_stopped}
 use Rattle.mg_workers.specs.declared.held.Held.{Held}
 use Rattle.mg_workers.specs.declared.seat.Seat.{Seat}
 use Rattle.mg_workers.specs.declared.held.End.{End}

@@ -8,8 +8,9 @@ use Rattle.mg_core.specs.Log.{facts_of, Settled}
 use Rattle.mg_core.proofs.Logs.{facts_of-append}
 use Rattle.mg_turn.specs.declared.outcome.TurnEnd.{TurnEnd}
 use Rattle.mg_turn.specs.declared.outcome.TurnEnd.TheVariants as ended
-use Rattle.mg_turn.specs.Turn.{Recording, records_of, goes_on}
-use Rattle.mg_turn.specs.Third.{Third, ThirdEnd, third}
+use Rattle.mg_core.specs.Recording.{Recording}
+use Rattle.mg_turn.specs.Turn.{records_of, goes_on}
+use Rattle.mg_double.specs.Third.{Third, ThirdEnd, third}
 use Rattle.mg_workers.specs.declared.held.End.{End}
 use Rattle.mg_workers.specs.declared.held.End.TheVariants as ends
 use Rattle.mg_workers.specs.Run.{Row, Running, entry_of, row_after, end_after, leaves_at, Finished}

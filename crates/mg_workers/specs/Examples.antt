@@ -1,6 +1,6 @@
 -- A run of one search, for examples.
 use Rattle.std.specs.Prelude.{ℕ, false, [], ◌∷◌}
-use Rattle.mg_turn.specs.Third.{Third}
+use Rattle.mg_double.specs.Third.{Third}
 use Rattle.mg_workers.specs.declared.held.End.TheVariants.{Fresh}
 use Rattle.mg_workers.specs.Run.{Running}
 

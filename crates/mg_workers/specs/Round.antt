@@ -1,7 +1,8 @@
 -- One worker that goes round its searches.
 use Rattle.std.specs.Prelude.{◌≡◌, ℕ, ◌+◌, ◌≤◌, ◌^◌, min, Bool, true, false, List, map}
 use Rattle.mg_core.specs.declared.entries.Entry.{Entry}
-use Rattle.mg_turn.specs.Turn.{Recording, Searching}
+use Rattle.mg_core.specs.Recording.{Recording}
+use Rattle.mg_turn.specs.Turn.{Searching}
 use Rattle.mg_workers.specs.declared.held.Held.{Held}
 use Rattle.mg_workers.specs.declared.turns.TheConstants.{MOST_UNITS}
 use Rattle.mg_workers.specs.Run.{Row, Running, Runs, Finished}

@@ -7,7 +7,8 @@ use Rattle.mg_core.specs.Log.{Settled, Handed}
 use Rattle.mg_turn.specs.declared.outcome.Outcome.{Outcome}
 use Rattle.mg_turn.specs.declared.outcome.TurnEnd.{TurnEnd}
 use Rattle.mg_turn.specs.declared.outcome.TurnEnd.TheVariants as ended
-use Rattle.mg_turn.specs.Turn.{Recording, Searching, records_of, is_stopped}
+use Rattle.mg_core.specs.Recording.{Recording}
+use Rattle.mg_turn.specs.Turn.{Searching, records_of, is_stopped}
 use Rattle.mg_workers.specs.declared.held.End.{End}
 use Rattle.mg_workers.specs.declared.held.End.TheVariants as ends
 

@@ -2,8 +2,7 @@
 ghost use Rattle.std.specs.Prelude.{◌≡◌, ℕ, ◌+◌, ◌*◌, ◌++◌, [], ◌∷◌, ◌<◌, ◌≤◌, true, Option, List, length};
 ghost use Rattle.mg_core.specs.declared.entries.Entry.{Entry as EntryOf};
 ghost use Rattle.mg_core.specs.Log.{LegalFrom};
-ghost use Rattle.mg_turn.specs.Third.{Third, third};
-ghost use Rattle.mg_turn.specs.Turn.{Recording, Searching};
+ghost use Rattle.mg_double.specs.Third.{Third, third};
 ghost use Rattle.mg_workers.specs.Examples.{third_with};
 ghost use Rattle.mg_workers.specs.Rows.{EachPair, Keeps, AreFunded, AreApart, AreAsked, units_of, entries_of, total_spent, with_row};
 ghost use Rattle.mg_workers.specs.Run.{Row, Running, Begins, Event, Runs, Finished};
@@ -22,27 +21,23 @@ pub trait Sizes {
 /// A run behind a run is a run.
 pub fn runs_join<R: Record, S: Searcher<R>, P: Sizes>()
     ensures { (workers : ℕ) (begin : List (EntryOf R)) (old mid new : Running R S) →
-        let recording : Recording R R.Key R.Group = record { valid = R.valid; settles = R.settled; model_of = R.modelled } in
-        let searching : Searching R R.Key R.Group S = record { key = S.key_of; group = S.group_of; spent = S.spent_of; is_open = S.is_open_of; wants = S.wants_of; turns = S.turns } in
-        Runs recording searching workers P.is_size begin old mid → Runs recording searching workers P.is_size begin mid new →
-        Runs recording searching workers P.is_size begin old new }
+        Runs R.recording S.searching workers P.is_size begin old mid →
+        Runs R.recording S.searching workers P.is_size begin mid new →
+        Runs R.recording S.searching workers P.is_size begin old new }
 {}
 
 /// A run with an event behind it is a run.
 pub fn event_joins<R: Record, S: Searcher<R>, P: Sizes>()
     ensures { (workers : ℕ) (begin : List (EntryOf R)) (old mid new : Running R S) →
-        let recording : Recording R R.Key R.Group = record { valid = R.valid; settles = R.settled; model_of = R.modelled } in
-        let searching : Searching R R.Key R.Group S = record { key = S.key_of; group = S.group_of; spent = S.spent_of; is_open = S.is_open_of; wants = S.wants_of; turns = S.turns } in
-        Runs recording searching workers P.is_size begin old mid → Event recording searching workers P.is_size begin mid new →
-        Runs recording searching workers P.is_size begin old new }
+        Runs R.recording S.searching workers P.is_size begin old mid →
+        Event R.recording S.searching workers P.is_size begin mid new →
+        Runs R.recording S.searching workers P.is_size begin old new }
 {}
 
 /// The log of a run begins with the one before.
 pub fn log_grows<R: Record, S: Searcher<R>, P: Sizes>()
     ensures { (workers : ℕ) (begin : List (EntryOf R)) (old new : Running R S) →
-        let recording : Recording R R.Key R.Group = record { valid = R.valid; settles = R.settled; model_of = R.modelled } in
-        let searching : Searching R R.Key R.Group S = record { key = S.key_of; group = S.group_of; spent = S.spent_of; is_open = S.is_open_of; wants = S.wants_of; turns = S.turns } in
-        Runs recording searching workers P.is_size begin old new →
+        Runs R.recording S.searching workers P.is_size begin old new →
         Begins old.log new.log }
 {}
 
@@ -50,63 +45,66 @@ pub fn log_grows<R: Record, S: Searcher<R>, P: Sizes>()
 /// it holds beyond the allowed units. A search that has left stays as it is.
 pub fn balances_stay<R: Record, S: Searcher<R>, P: Sizes>()
     ensures { (workers : ℕ) (begin : List (EntryOf R)) (old new : Running R S) →
-        let recording : Recording R R.Key R.Group = record { valid = R.valid; settles = R.settled; model_of = R.modelled } in
-        let searching : Searching R R.Key R.Group S = record { key = S.key_of; group = S.group_of; spent = S.spent_of; is_open = S.is_open_of; wants = S.wants_of; turns = S.turns } in
-        AreFunded old.rows → Runs recording searching workers P.is_size begin old new →
-        EachPair (Keeps searching) old.rows new.rows }
+        AreFunded old.rows → Runs R.recording S.searching workers P.is_size begin old new →
+        EachPair (Keeps S.searching) old.rows new.rows }
 {}
 
 /// A legal log stays legal.
 pub fn log_stays_legal<R: Record, S: Searcher<R>, P: Sizes>()
-    ensures { (asks : EntryOf R → Option R.Key) (workers : ℕ) (begin : List (EntryOf R)) (old new : Running R S) →
-        let recording : Recording R R.Key R.Group = record { valid = R.valid; settles = R.settled; model_of = R.modelled } in
-        let searching : Searching R R.Key R.Group S = record { key = S.key_of; group = S.group_of; spent = S.spent_of; is_open = S.is_open_of; wants = S.wants_of; turns = S.turns } in
-        AreFunded old.rows → AreAsked searching asks old.rows → Runs recording searching workers P.is_size begin old new →
-        LegalFrom R.valid R.settled asks [] old.log → LegalFrom R.valid R.settled asks [] new.log }
+    ensures { (asks : EntryOf R → Option R.Key)
+        (workers : ℕ) (begin : List (EntryOf R)) (old new : Running R S) →
+        AreFunded old.rows → AreAsked S.searching asks old.rows →
+        Runs R.recording S.searching workers P.is_size begin old new →
+        LegalFrom R.recording.valid R.recording.settles asks [] old.log →
+        LegalFrom R.recording.valid R.recording.settles asks [] new.log }
 {}
 
 /// The new entries of each search sum to what its spent units rose by, and are at most that many and two more.
 pub fn entries_sum_to_spent<R: Record, S: Searcher<R>, P: Sizes>()
     ensures { (workers : ℕ) (begin : List (EntryOf R)) (old new : Running R S) →
-        let recording : Recording R R.Key R.Group = record { valid = R.valid; settles = R.settled; model_of = R.modelled } in
-        let searching : Searching R R.Key R.Group S = record { key = S.key_of; group = S.group_of; spent = S.spent_of; is_open = S.is_open_of; wants = S.wants_of; turns = S.turns } in
-        AreApart old.rows → Runs recording searching workers P.is_size begin old new →
-        (more : List (EntryOf R)) × (new.log ≡ old.log ++ more) × EachPair (λ row after.
-        (units_of row.number more + row.spent ≡ after.spent) × (entries_of row.number more + row.spent ≤ after.spent + 2)) old.rows new.rows }
+        AreApart old.rows → Runs R.recording S.searching workers P.is_size begin old new →
+        (more : List (EntryOf R)) × (new.log ≡ old.log ++ more)
+        × EachPair (λ row after.
+        (units_of row.number more + row.spent ≡ after.spent)
+        × (entries_of row.number more + row.spent ≤ after.spent + 2)) old.rows new.rows }
 {}
 
 /// All new entries are at most as many as the units spent, and two more for each search.
 pub fn entries_are_few<R: Record, S: Searcher<R>, P: Sizes>()
     ensures { (workers : ℕ) (begin : List (EntryOf R)) (old new : Running R S) →
-        let recording : Recording R R.Key R.Group = record { valid = R.valid; settles = R.settled; model_of = R.modelled } in
-        let searching : Searching R R.Key R.Group S = record { key = S.key_of; group = S.group_of; spent = S.spent_of; is_open = S.is_open_of; wants = S.wants_of; turns = S.turns } in
-        Runs recording searching workers P.is_size begin old new →
-        length new.log + total_spent old.rows ≤ length old.log + total_spent new.rows + 2 * length old.rows }
+        Runs R.recording S.searching workers P.is_size begin old new →
+        length new.log + total_spent old.rows
+        ≤ length old.log + total_spent new.rows + 2 * length old.rows }
 {}
 
 /// A search that has left changes nothing of a run that it is put into.
 pub fn left_rows_take_no_part<R: Record, S: Searcher<R>, P: Sizes>()
-    ensures { (workers place : ℕ) (row : Row S) (begin : List (EntryOf R)) (old new : Running R S) →
-        let recording : Recording R R.Key R.Group = record { valid = R.valid; settles = R.settled; model_of = R.modelled } in
-        let searching : Searching R R.Key R.Group S = record { key = S.key_of; group = S.group_of; spent = S.spent_of; is_open = S.is_open_of; wants = S.wants_of; turns = S.turns } in
-        row.left ≡ true → Runs recording searching workers P.is_size begin old new →
-        Runs recording searching workers P.is_size begin (with_row place row old) (with_row place row new) × (Finished new → Finished (with_row place row new)) }
+    ensures { (workers place : ℕ) (row : Row S)
+        (begin : List (EntryOf R)) (old new : Running R S) →
+        row.left ≡ true → Runs R.recording S.searching workers P.is_size begin old new →
+        Runs R.recording S.searching workers P.is_size begin
+        (with_row place row old) (with_row place row new)
+        × (Finished new → Finished (with_row place row new)) }
 {}
 
 /// A search that would find at its third unit spends two units, where it has two, and goes on.
 pub fn two_units_do_not_find<R: Record, P: Sizes>()
-    ensures { (verdict : R.Key → R) (key : R.Key) (group : R.Group) (workers number : ℕ) (begin : List (EntryOf R)) (new : Running R (Third R.Key R.Group)) →
-        let recording : Recording R R.Key R.Group = record { valid = R.valid; settles = R.settled; model_of = R.modelled } in
-        Runs recording (third recording verdict) workers P.is_size begin (third_with key group number 2) new → Finished new →
-        (after : Row (Third R.Key R.Group)) × (new.rows ≡ after ∷ []) × (after.spent ≡ 2) × (after.held ≡ 0) × (after.allowed ≡ 0) × (after.end ≡ More) }
+    ensures { (verdict : R.Key → R) (key : R.Key) (group : R.Group) (workers number : ℕ)
+        (begin : List (EntryOf R)) (new : Running R (Third R.Key R.Group)) →
+        Runs R.recording (third R.recording verdict) workers P.is_size begin
+        (third_with key group number 2) new → Finished new →
+        (after : Row (Third R.Key R.Group)) × (new.rows ≡ after ∷ []) × (after.spent ≡ 2)
+        × (after.held ≡ 0) × (after.allowed ≡ 0) × (after.end ≡ More) }
 {}
 
 /// Where it has five units it spends three and finds, and two are left.
 pub fn five_units_find<R: Record, P: Sizes>()
-    ensures { (verdict : R.Key → R) (key : R.Key) (group : R.Group) (workers number : ℕ) (begin : List (EntryOf R)) (new : Running R (Third R.Key R.Group)) →
-        let recording : Recording R R.Key R.Group = record { valid = R.valid; settles = R.settled; model_of = R.modelled } in
-        Runs recording (third recording verdict) workers P.is_size begin (third_with key group number 5) new → Finished new →
-        (after : Row (Third R.Key R.Group)) × (new.rows ≡ after ∷ []) × (after.spent ≡ 3) × (after.held ≡ 2) × (after.allowed ≡ 2) × (after.end ≡ Found) }
+    ensures { (verdict : R.Key → R) (key : R.Key) (group : R.Group) (workers number : ℕ)
+        (begin : List (EntryOf R)) (new : Running R (Third R.Key R.Group)) →
+        Runs R.recording (third R.recording verdict) workers P.is_size begin
+        (third_with key group number 5) new → Finished new →
+        (after : Row (Third R.Key R.Group)) × (new.rows ≡ after ∷ []) × (after.spent ≡ 3)
+        × (after.held ≡ 2) × (after.allowed ≡ 2) × (after.end ≡ Found) }
 {}
 
 /// The limit of a turn as a number.

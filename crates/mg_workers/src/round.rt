@@ -2,7 +2,6 @@
 ghost use Rattle.std.specs.Prelude.{◌≡◌, ℕ, ◌+◌, ◌<◌, true, false, List, [], ◌∷◌, map, IfOk, OnOk, OnErr};
 ghost use Rattle.std.specs.List.{AllByRecursion};
 ghost use Rattle.mg_core.specs.declared.entries.Entry.{Entry as EntryOf};
-ghost use Rattle.mg_turn.specs.Turn.{Recording, Searching};
 ghost use Rattle.mg_workers.specs.Round.{even, row_of, entered, ComesTo, IsFit, GoesRound};
 ghost use Rattle.mg_workers.specs.Run.{Begins, Runs, Finished};
 ghost use Rattle.mg_workers.specs.Seats.{row_at, seated, cells_of, turns_ahead};
@@ -20,28 +19,17 @@ fn go_once<R: Record, S: Searcher<R>>(
     book: &mut Book<R>,
     seats: &mut [Seat<S>],
 ) -> Result<bool, NoMemory>
-    requires { let searching : Searching R R.Key R.Group S = record { key = S.key_of; group = S.group_of; spent = S.spent_of; is_open = S.is_open_of; wants = S.wants_of; turns = S.turns } in
-        AllByRecursion (IsFit searching) (map row_at seats.old) }
-    ensures runs { let recording : Recording R R.Key R.Group = record { valid = R.valid; settles = R.settled; model_of = R.modelled } in
-        let searching : Searching R R.Key R.Group S = record { key = S.key_of; group = S.group_of; spent = S.spent_of; is_open = S.is_open_of; wants = S.wants_of; turns = S.turns } in
-        OnOk result ((begin : List (EntryOf R)) → Begins begin book.old → Runs recording searching 1 even begin (seated seats.old book.old) (seated seats.new book.new)) }
-    ensures fit { let searching : Searching R R.Key R.Group S = record { key = S.key_of; group = S.group_of; spent = S.spent_of; is_open = S.is_open_of; wants = S.wants_of; turns = S.turns } in
-        OnOk result (AllByRecursion (IsFit searching) (map row_at seats.new)) }
+    requires { AllByRecursion (IsFit S.searching) (map row_at seats.old) }
+    ensures runs { OnOk result ((begin : List (EntryOf R)) → Begins begin book.old →
+        Runs R.recording S.searching 1 even begin
+        (seated seats.old book.old) (seated seats.new book.new)) }
+    ensures fit { OnOk result (AllByRecursion (IsFit S.searching) (map row_at seats.new)) }
     ensures cells { OnOk result (cells_of seats.new ≡ cells_of seats.old) }
-    ensures some { IfOk result (λ some. some ≡ true → turns_ahead (map row_at seats.new) < turns_ahead (map row_at seats.old)) }
+    ensures some { IfOk result (λ some. some ≡ true →
+        turns_ahead (map row_at seats.new) < turns_ahead (map row_at seats.old)) }
     ensures none { IfOk result (λ some. some ≡ false → Finished (seated seats.new book.new)) }
-    ensures memory { let recording : Recording R R.Key R.Group =
-        record { valid = R.valid; settles = R.settled; model_of = R.modelled } in
-        let searching : Searching R R.Key R.Group S = record {
-          key = S.key_of;
-          group = S.group_of;
-          spent = S.spent_of;
-          is_open = S.is_open_of;
-          wants = S.wants_of;
-          turns = S.turns;
-        } in
-        OnErr result ((begin : List (EntryOf R)) → Begins begin book.old →
-        ComesTo recording searching begin (seated seats.old book.old) book.new) }
+    ensures memory { OnErr result ((begin : List (EntryOf R)) → Begins begin book.old →
+        ComesTo R.recording S.searching begin (seated seats.old book.old) book.new) }
 {
     let mut some = false;
     for seat in seats.iter_mut() {
@@ -59,26 +47,14 @@ fn go_alone<R: Record, S: Searcher<R>>(
     book: &mut Book<R>,
     seat: &mut Seat<S>,
 ) -> Result<(), NoMemory>
-    requires { let searching : Searching R R.Key R.Group S = record { key = S.key_of; group = S.group_of; spent = S.spent_of; is_open = S.is_open_of; wants = S.wants_of; turns = S.turns } in
-        IsFit searching (row_at seat.old) }
-    ensures runs { let recording : Recording R R.Key R.Group = record { valid = R.valid; settles = R.settled; model_of = R.modelled } in
-        let searching : Searching R R.Key R.Group S = record { key = S.key_of; group = S.group_of; spent = S.spent_of; is_open = S.is_open_of; wants = S.wants_of; turns = S.turns } in
-        OnOk result ((begin : List (EntryOf R)) → Begins begin book.old → Runs recording searching 1 even begin (seated (seat.old ∷ []) book.old) (seated (seat.new ∷ []) book.new)) }
-    ensures fit { let searching : Searching R R.Key R.Group S = record { key = S.key_of; group = S.group_of; spent = S.spent_of; is_open = S.is_open_of; wants = S.wants_of; turns = S.turns } in
-        OnOk result (IsFit searching (row_at seat.new)) }
+    requires { IsFit S.searching (row_at seat.old) }
+    ensures runs { OnOk result ((begin : List (EntryOf R)) → Begins begin book.old →
+        Runs R.recording S.searching 1 even begin
+        (seated (seat.old ∷ []) book.old) (seated (seat.new ∷ []) book.new)) }
+    ensures fit { OnOk result (IsFit S.searching (row_at seat.new)) }
     ensures cell { OnOk result (seat.new.held.cell ≡ seat.old.held.cell) }
-    ensures memory { let recording : Recording R R.Key R.Group =
-        record { valid = R.valid; settles = R.settled; model_of = R.modelled } in
-        let searching : Searching R R.Key R.Group S = record {
-          key = S.key_of;
-          group = S.group_of;
-          spent = S.spent_of;
-          is_open = S.is_open_of;
-          wants = S.wants_of;
-          turns = S.turns;
-        } in
-        OnErr result ((begin : List (EntryOf R)) → Begins begin book.old →
-        ComesTo recording searching begin (seated (seat.old ∷ []) book.old) book.new) }
+    ensures memory { OnErr result ((begin : List (EntryOf R)) → Begins begin book.old →
+        ComesTo R.recording S.searching begin (seated (seat.old ∷ []) book.old) book.new) }
 {
     if !seat.goes_on() {
         return Ok(());
@@ -95,26 +71,14 @@ fn go_first<R: Record, S: Searcher<R>>(
     book: &mut Book<R>,
     seats: &mut [Seat<S>],
 ) -> Result<(), NoMemory>
-    requires { let searching : Searching R R.Key R.Group S = record { key = S.key_of; group = S.group_of; spent = S.spent_of; is_open = S.is_open_of; wants = S.wants_of; turns = S.turns } in
-        AllByRecursion (IsFit searching) (map row_at seats.old) }
-    ensures runs { let recording : Recording R R.Key R.Group = record { valid = R.valid; settles = R.settled; model_of = R.modelled } in
-        let searching : Searching R R.Key R.Group S = record { key = S.key_of; group = S.group_of; spent = S.spent_of; is_open = S.is_open_of; wants = S.wants_of; turns = S.turns } in
-        OnOk result ((begin : List (EntryOf R)) → Begins begin book.old → Runs recording searching 1 even begin (seated seats.old book.old) (seated seats.new book.new)) }
-    ensures fit { let searching : Searching R R.Key R.Group S = record { key = S.key_of; group = S.group_of; spent = S.spent_of; is_open = S.is_open_of; wants = S.wants_of; turns = S.turns } in
-        OnOk result (AllByRecursion (IsFit searching) (map row_at seats.new)) }
+    requires { AllByRecursion (IsFit S.searching) (map row_at seats.old) }
+    ensures runs { OnOk result ((begin : List (EntryOf R)) → Begins begin book.old →
+        Runs R.recording S.searching 1 even begin
+        (seated seats.old book.old) (seated seats.new book.new)) }
+    ensures fit { OnOk result (AllByRecursion (IsFit S.searching) (map row_at seats.new)) }
     ensures cells { OnOk result (cells_of seats.new ≡ cells_of seats.old) }
-    ensures memory { let recording : Recording R R.Key R.Group =
-        record { valid = R.valid; settles = R.settled; model_of = R.modelled } in
-        let searching : Searching R R.Key R.Group S = record {
-          key = S.key_of;
-          group = S.group_of;
-          spent = S.spent_of;
-          is_open = S.is_open_of;
-          wants = S.wants_of;
-          turns = S.turns;
-        } in
-        OnErr result ((begin : List (EntryOf R)) → Begins begin book.old →
-        ComesTo recording searching begin (seated seats.old book.old) book.new) }
+    ensures memory { OnErr result ((begin : List (EntryOf R)) → Begins begin book.old →
+        ComesTo R.recording S.searching begin (seated seats.old book.old) book.new) }
 {
     match seats {
         [seat] => go_alone(alloc, book, seat),
@@ -132,30 +96,11 @@ pub fn go_round<R: Record, S: Searcher<R> + Drop>(
     book: &mut Book<R>,
     searches: HeldList<S>,
 ) -> Result<HeldList<S>, NoMemory>
-    requires { let searching : Searching R R.Key R.Group S = record { key = S.key_of; group = S.group_of; spent = S.spent_of; is_open = S.is_open_of; wants = S.wants_of; turns = S.turns } in
-        AllByRecursion (IsFit searching) (map (row_of false false) searches) }
-    ensures ok { let recording : Recording R R.Key R.Group =
-        record { valid = R.valid; settles = R.settled; model_of = R.modelled } in
-        let searching : Searching R R.Key R.Group S = record {
-          key = S.key_of;
-          group = S.group_of;
-          spent = S.spent_of;
-          is_open = S.is_open_of;
-          wants = S.wants_of;
-          turns = S.turns;
-        } in
-        IfOk result (λ after. GoesRound recording searching searches book.old after book.new) }
-    ensures memory { let recording : Recording R R.Key R.Group =
-        record { valid = R.valid; settles = R.settled; model_of = R.modelled } in
-        let searching : Searching R R.Key R.Group S = record {
-          key = S.key_of;
-          group = S.group_of;
-          spent = S.spent_of;
-          is_open = S.is_open_of;
-          wants = S.wants_of;
-          turns = S.turns;
-        } in
-        OnErr result (ComesTo recording searching book.old (entered searches book.old) book.new) }
+    requires { AllByRecursion (IsFit S.searching) (map (row_of false false) searches) }
+    ensures ok { IfOk result (λ after.
+        GoesRound R.recording S.searching searches book.old after book.new) }
+    ensures memory { OnErr result (
+        ComesTo R.recording S.searching book.old (entered searches book.old) book.new) }
 {
     let mut seats = seats_of(alloc, searches)?;
     go_first(alloc, book, &mut seats)?;

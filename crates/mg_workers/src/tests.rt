@@ -4,7 +4,7 @@ ghost use Rattle.mg_workers.specs.declared.held.End.TheVariants.{Fresh};
 
 use super::*;
 use mg_core::{Book, Committed, EntryView, NoMemory};
-use mg_turn::example::{Finder, Mark};
+use mg_double::{Finder, Mark};
 use std::alloc::Global;
 use std::test::Fail;
 

@@ -4,7 +4,7 @@ ghost use Rattle.std.specs.List.{AllByRecursion};
 ghost use Rattle.mg_core.specs.declared.entries.Entry.{Entry as EntryOf};
 ghost use Rattle.mg_core.specs.Book.{bare};
 ghost use Rattle.mg_core.specs.Log.{Settled};
-ghost use Rattle.mg_turn.specs.Turn.{Recording, Searching, IsSound, is_stopped, records_of};
+ghost use Rattle.mg_turn.specs.Turn.{IsSound, is_stopped, records_of};
 ghost use Rattle.mg_workers.specs.Round.{even, ComesTo, IsFit};
 ghost use Rattle.mg_workers.specs.Run.{Begins, Event, Runs, end_after};
 ghost use Rattle.mg_workers.specs.Seats.{row_at, seated, whole, Follows, PutsDown};
@@ -53,7 +53,7 @@ impl<R: Record> Stop<R> for Silent {
 
 /// The record that settles the key in the book; None exactly where there is none.
 fn verdict<'a, R: Record>(book: &'a Book<R>, key: &R::Key) -> Option<&'a R>
-    ensures { IsSome (option_copied result) ↔ Settled R.settled book.now key.now }
+    ensures { IsSome (option_copied result) ↔ Settled R.recording.settles book.now key.now }
 {
     match book.verdict(key) {
         Some((_, record)) => Some(record),
@@ -70,15 +70,16 @@ fn turn_untold<R: Record, S: Searcher<R>>(
     units: u64,
     facts: Facts<R>,
 ) -> Result<Outcome<R>, NoMemory>
-    requires is_open { S.is_open_of search.old ≡ true }
+    requires is_open { S.searching.is_open search.old ≡ true }
     requires some_units { 1 ≤ units }
-    requires in_all { S.spent_of search.old + units ≤ 2 ^ 62 }
-    requires few { length facts.records ≤ S.wants_of search.old units }
-    requires of_group { AllByRecursion (λ r. R.modelled r ≡ Some (S.group_of search.old)) facts.records }
-    ensures turns { IfOk result (λ outcome. S.turns search.old units facts outcome search.new) }
-    ensures sound { let recording : Recording R R.Key R.Group = record { valid = R.valid; settles = R.settled; model_of = R.modelled } in
-        let searching : Searching R R.Key R.Group S = record { key = S.key_of; group = S.group_of; spent = S.spent_of; is_open = S.is_open_of; wants = S.wants_of; turns = S.turns } in
-        IfOk result (λ outcome. IsSound recording searching search.old units facts outcome search.new) }
+    requires in_all { S.searching.spent search.old + units ≤ 2 ^ 62 }
+    requires few { length facts.records ≤ S.searching.wants search.old units }
+    requires of_group { AllByRecursion
+        (λ r. R.recording.model_of r ≡ Some (S.searching.group search.old)) facts.records }
+    ensures turns { IfOk result (λ outcome.
+        S.searching.turns search.old units facts outcome search.new) }
+    ensures sound { IfOk result (λ outcome.
+        IsSound R.recording S.searching search.old units facts outcome search.new) }
     ensures unstopped { IfOk result (λ outcome. is_stopped outcome.end ≡ false) }
 {
     search.turn(alloc, units, facts, &mut Silent {})
@@ -93,15 +94,16 @@ fn turn_told<R: Record, S: Searcher<R>>(
     units: u64,
     facts: Facts<R>,
 ) -> Result<Outcome<R>, NoMemory>
-    requires is_open { S.is_open_of search.old ≡ true }
+    requires is_open { S.searching.is_open search.old ≡ true }
     requires some_units { 1 ≤ units }
-    requires in_all { S.spent_of search.old + units ≤ 2 ^ 62 }
-    requires few { length facts.records ≤ S.wants_of search.old units }
-    requires of_group { AllByRecursion (λ r. R.modelled r ≡ Some (S.group_of search.old)) facts.records }
-    ensures turns { IfOk result (λ outcome. S.turns search.old units facts outcome search.new) }
-    ensures sound { let recording : Recording R R.Key R.Group = record { valid = R.valid; settles = R.settled; model_of = R.modelled } in
-        let searching : Searching R R.Key R.Group S = record { key = S.key_of; group = S.group_of; spent = S.spent_of; is_open = S.is_open_of; wants = S.wants_of; turns = S.turns } in
-        IfOk result (λ outcome. IsSound recording searching search.old units facts outcome search.new) }
+    requires in_all { S.searching.spent search.old + units ≤ 2 ^ 62 }
+    requires few { length facts.records ≤ S.searching.wants search.old units }
+    requires of_group { AllByRecursion
+        (λ r. R.recording.model_of r ≡ Some (S.searching.group search.old)) facts.records }
+    ensures turns { IfOk result (λ outcome.
+        S.searching.turns search.old units facts outcome search.new) }
+    ensures sound { IfOk result (λ outcome.
+        IsSound R.recording S.searching search.old units facts outcome search.new) }
 {
     let mut told = Told {
         verdict: verdict(book, search.key()),
@@ -118,15 +120,16 @@ fn turn<R: Record, S: Searcher<R>>(
     units: u64,
     facts: Facts<R>,
 ) -> Result<Outcome<R>, NoMemory>
-    requires is_open { S.is_open_of search.old ≡ true }
+    requires is_open { S.searching.is_open search.old ≡ true }
     requires some_units { 1 ≤ units }
-    requires in_all { S.spent_of search.old + units ≤ 2 ^ 62 }
-    requires few { length facts.records ≤ S.wants_of search.old units }
-    requires of_group { AllByRecursion (λ r. R.modelled r ≡ Some (S.group_of search.old)) facts.records }
-    ensures turns { IfOk result (λ outcome. S.turns search.old units facts outcome search.new) }
-    ensures sound { let recording : Recording R R.Key R.Group = record { valid = R.valid; settles = R.settled; model_of = R.modelled } in
-        let searching : Searching R R.Key R.Group S = record { key = S.key_of; group = S.group_of; spent = S.spent_of; is_open = S.is_open_of; wants = S.wants_of; turns = S.turns } in
-        IfOk result (λ outcome. IsSound recording searching search.old units facts outcome search.new) }
+    requires in_all { S.searching.spent search.old + units ≤ 2 ^ 62 }
+    requires few { length facts.records ≤ S.searching.wants search.old units }
+    requires of_group { AllByRecursion
+        (λ r. R.recording.model_of r ≡ Some (S.searching.group search.old)) facts.records }
+    ensures turns { IfOk result (λ outcome.
+        S.searching.turns search.old units facts outcome search.new) }
+    ensures sound { IfOk result (λ outcome.
+        IsSound R.recording S.searching search.old units facts outcome search.new) }
     ensures once { IfOk result (λ outcome. is_stopped outcome.end ≡ true → looked ≡ false) }
 {
     if looked {
@@ -177,9 +180,12 @@ fn records_in<R: Drop>(alloc: Global, end: TurnEnd<R>) -> Records<R>
 fn commit<R: Record>(book: &mut Book<R>, key: &R::Key, entry: Entry<R>) -> Result<bool, NoMemory>
     requires kept { entry.dropped ≡ false }
     requires few { length entry.records ≤ 2 }
-    requires of_key { AllByRecursion (λ r. IfSome (R.settled r) (λ k. k ≡ key.now)) entry.records }
-    ensures dropped { IfOk result (λ dropped. (dropped ≡ true) ↔ Settled R.settled book.old key.now) }
-    ensures log { IfOk result (λ dropped. book.new ≡ book.old ++ (if dropped then bare entry else entry) ∷ []) }
+    requires of_key { AllByRecursion (λ r. IfSome (R.recording.settles r)
+        (λ k. k ≡ key.now)) entry.records }
+    ensures dropped { IfOk result (λ dropped.
+        (dropped ≡ true) ↔ Settled R.recording.settles book.old key.now) }
+    ensures log { IfOk result (λ dropped.
+        book.new ≡ book.old ++ (if dropped then bare entry else entry) ∷ []) }
     ensures memory { OnErr result (book.new ≡ book.old) }
 {
     match book.commit(key, entry)? {
@@ -198,7 +204,8 @@ fn is_whole<R>(outcome: &Outcome<R>) -> bool
 /// Whether whole turns may follow a turn, of which it is told whether it was whole and dropped, whether its search has
 /// looked, and how many turns that had made before.
 fn may_follow(is_whole: bool, dropped: bool, looked: bool, turns: u64) -> bool
-    ensures { IsTrue result ↔ ((is_whole ≡ true) × (dropped ≡ false) × (looked ≡ false) × (turns < 2 ^ 64 - 1)) }
+    ensures { IsTrue result ↔ ((is_whole ≡ true) × (dropped ≡ false)
+        × (looked ≡ false) × (turns < 2 ^ 64 - 1)) }
 {
     is_whole && !dropped && !looked && turns < u64::MAX
 }
@@ -216,8 +223,10 @@ fn put_down<R: Record, S: Searcher<R>>(
     requires within { seat.old.held.allowed ≤ seat.old.held.held }
     requires in_all { seat.old.held.spent + seat.old.held.held ≤ 2 ^ 62 }
     requires few { length (records_of outcome.end) ≤ 2 }
-    requires of_key { AllByRecursion (λ r. IfSome (R.settled r) (λ k. k ≡ S.key_of seat.old.held.search)) (records_of outcome.end) }
-    ensures ok { IfOk result (λ dropped. PutsDown R.settled (S.key_of seat.old.held.search)
+    requires of_key { AllByRecursion (λ r. IfSome (R.recording.settles r)
+        (λ k. k ≡ S.searching.key seat.old.held.search)) (records_of outcome.end) }
+    ensures ok { IfOk result (λ dropped.
+        PutsDown R.recording.settles (S.searching.key seat.old.held.search)
         book.old seat.old upto outcome dropped book.new seat.new) }
     ensures memory { OnErr result (book.new ≡ book.old) }
 {
@@ -248,16 +257,16 @@ pub(crate) fn take_turn<R: Record, S: Searcher<R>>(
     book: &mut Book<R>,
     seat: &mut Seat<S>,
 ) -> Result<bool, NoMemory>
-    requires fit { let searching : Searching R R.Key R.Group S = record { key = S.key_of; group = S.group_of; spent = S.spent_of; is_open = S.is_open_of; wants = S.wants_of; turns = S.turns } in
-        IsFit searching (row_at seat.old) }
+    requires fit { IsFit S.searching (row_at seat.old) }
     requires stays { seat.old.left ≡ false }
     requires allowed { 1 ≤ seat.old.held.allowed }
-    ensures event { let recording : Recording R R.Key R.Group = record { valid = R.valid; settles = R.settled; model_of = R.modelled } in
-        let searching : Searching R R.Key R.Group S = record { key = S.key_of; group = S.group_of; spent = S.spent_of; is_open = S.is_open_of; wants = S.wants_of; turns = S.turns } in
-        OnOk result ((begin : List (EntryOf R)) → Begins begin book.old → Event recording searching 1 even begin (seated (seat.old ∷ []) book.old) (seated (seat.new ∷ []) book.new)) }
+    ensures event { OnOk result ((begin : List (EntryOf R)) → Begins begin book.old →
+        Event R.recording S.searching 1 even begin
+        (seated (seat.old ∷ []) book.old) (seated (seat.new ∷ []) book.new)) }
     ensures cell { OnOk result (seat.new.held.cell ≡ seat.old.held.cell) }
     ensures alike { IfOk result (λ alike.
-        (alike ≡ true) ↔ Follows R.settled (S.key_of seat.new.held.search) book.new seat.new) }
+        (alike ≡ true) ↔ Follows R.recording.settles
+        (S.searching.key seat.new.held.search) book.new seat.new) }
     ensures memory { OnErr result (book.new ≡ book.old) }
 {
     let units = seat.held.allowed.min(MOST_UNITS);
@@ -295,27 +304,16 @@ pub(crate) fn take_whole_turns<R: Record, S: Searcher<R>>(
     book: &mut Book<R>,
     seat: &mut Seat<S>,
 ) -> Result<(), NoMemory>
-    requires fit { let searching : Searching R R.Key R.Group S = record { key = S.key_of; group = S.group_of; spent = S.spent_of; is_open = S.is_open_of; wants = S.wants_of; turns = S.turns } in
-        IsFit searching (row_at seat.old) }
-    requires follows { Follows R.settled (S.key_of seat.old.held.search) book.old seat.old }
-    ensures runs { let recording : Recording R R.Key R.Group = record { valid = R.valid; settles = R.settled; model_of = R.modelled } in
-        let searching : Searching R R.Key R.Group S = record { key = S.key_of; group = S.group_of; spent = S.spent_of; is_open = S.is_open_of; wants = S.wants_of; turns = S.turns } in
-        OnOk result ((begin : List (EntryOf R)) → Begins begin book.old → Runs recording searching 1 even begin (seated (seat.old ∷ []) book.old) (seated (seat.new ∷ []) book.new)) }
-    ensures fit { let searching : Searching R R.Key R.Group S = record { key = S.key_of; group = S.group_of; spent = S.spent_of; is_open = S.is_open_of; wants = S.wants_of; turns = S.turns } in
-        OnOk result (IsFit searching (row_at seat.new)) }
+    requires fit { IsFit S.searching (row_at seat.old) }
+    requires follows { Follows R.recording.settles
+        (S.searching.key seat.old.held.search) book.old seat.old }
+    ensures runs { OnOk result ((begin : List (EntryOf R)) → Begins begin book.old →
+        Runs R.recording S.searching 1 even begin
+        (seated (seat.old ∷ []) book.old) (seated (seat.new ∷ []) book.new)) }
+    ensures fit { OnOk result (IsFit S.searching (row_at seat.new)) }
     ensures cell { OnOk result (seat.new.held.cell ≡ seat.old.held.cell) }
-    ensures memory { let recording : Recording R R.Key R.Group =
-        record { valid = R.valid; settles = R.settled; model_of = R.modelled } in
-        let searching : Searching R R.Key R.Group S = record {
-          key = S.key_of;
-          group = S.group_of;
-          spent = S.spent_of;
-          is_open = S.is_open_of;
-          wants = S.wants_of;
-          turns = S.turns;
-        } in
-        OnErr result ((begin : List (EntryOf R)) → Begins begin book.old →
-        ComesTo recording searching begin (seated (seat.old ∷ []) book.old) book.new) }
+    ensures memory { OnErr result ((begin : List (EntryOf R)) → Begins begin book.old →
+        ComesTo R.recording S.searching begin (seated (seat.old ∷ []) book.old) book.new) }
 {
     let most = most_whole(seat.held.allowed, seat.held.turns);
     let mut read = seat.held.read;

@@ -10,7 +10,7 @@ compare_at-requires g c =
     let i = low + (high - low) / 2 in
     let small : i < high = omega (arith, c.loop-low-test.true) in
     let there = slice_get-get_or c.args.places.now i 0 (omega (arith, small, c.loop-low.invariant.within)) in
-    key_between g.R.Key.Ord.cmp g.met.R.Key.Ord.total g.R.Record.settled c.args.facts.now c.args.places.now c.args.key.now low high i (get_or c.args.places.now i 0) c.loop-low.invariant there
+    key_between g.R.Key.Ord.cmp g.met.R.Key.Ord.total g.R.Record.recording.settles c.args.facts.now c.args.places.now c.args.key.now low high i (get_or c.args.places.now i 0) c.loop-low.invariant there
 
 pub loop-low-preserved-in-Less : goal.loop-low-preserved-in-Less
 loop-low-preserved-in-Less g c =
@@ -19,7 +19,7 @@ loop-low-preserved-in-Less g c =
     let i = low + (high - low) / 2 in
     let small : i < high = omega (arith, c.loop-low-test.true) in
     let there = slice_get-get_or c.args.places.now i 0 (omega (arith, small, c.loop-low.invariant.within)) in
-    between_up g.R.Key.Ord.cmp g.met.R.Key.Ord.total g.R.Record.settled c.args.facts.now c.args.places.now c.args.key.now low high i (get_or c.args.places.now i 0) c.loop-low.invariant small there
+    between_up g.R.Key.Ord.cmp g.met.R.Key.Ord.total g.R.Record.recording.settles c.args.facts.now c.args.places.now c.args.key.now low high i (get_or c.args.places.now i 0) c.loop-low.invariant small there
     (λ k points. sym (c.compare_at.ensures k points) ∙ c.in-Less.is)
 
 pub returns-in-Equal-clause-found : goal.returns-in-Equal-clause-found
@@ -29,7 +29,7 @@ returns-in-Equal-clause-found g c =
     let i = low + (high - low) / 2 in
     let small : i < high = omega (arith, c.loop-low-test.true) in
     let there = slice_get-get_or c.args.places.now i 0 (omega (arith, small, c.loop-low.invariant.within)) in
-    found_at g.R.Key.Ord.cmp g.met.R.Key.Ord.total g.R.Record.settled c.args.facts.now c.args.places.now c.args.key.now g.met.R.Record.exact_keys low high i (get_or c.args.places.now i 0) c.loop-low.invariant there
+    found_at g.R.Key.Ord.cmp g.met.R.Key.Ord.total g.R.Record.recording.settles c.args.facts.now c.args.places.now c.args.key.now g.met.R.Record.lawful.exact_keys low high i (get_or c.args.places.now i 0) c.loop-low.invariant there
     (λ k points. sym (c.compare_at.ensures k points) ∙ c.in-Equal.is)
 
 pub loop-low-preserved : goal.loop-low-preserved
@@ -39,5 +39,5 @@ loop-low-preserved g c =
     let i = low + (high - low) / 2 in
     let small : i < high = omega (arith, c.loop-low-test.true) in
     let there = slice_get-get_or c.args.places.now i 0 (omega (arith, small, c.loop-low.invariant.within)) in
-    between_down g.R.Key.Ord.cmp g.met.R.Key.Ord.total g.R.Record.settled c.args.facts.now c.args.places.now c.args.key.now low high i (get_or c.args.places.now i 0) c.loop-low.invariant (omega arith) there
+    between_down g.R.Key.Ord.cmp g.met.R.Key.Ord.total g.R.Record.recording.settles c.args.facts.now c.args.places.now c.args.key.now low high i (get_or c.args.places.now i 0) c.loop-low.invariant (omega arith) there
     (λ k points. sym (c.compare_at.ensures k points) ∙ c.in-Greater.is)

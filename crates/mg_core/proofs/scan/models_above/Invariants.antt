@@ -6,7 +6,7 @@ abbrev pub invariant-loop-count : goal.invariant-loop-count
 invariant-loop-count g l = record {
   few : l.number ≤ length l.facts;
   most : l.count ≤ l.most;
-  gathered : Gathered g.R.Record.modelled l.group l.after l.facts l.number l.upto l.count l.records;
+  gathered : Gathered g.R.Record.recording.model_of l.group l.after l.facts l.number l.upto l.count l.records;
 }
 
 abbrev pub decreases-loop-count : goal.decreases-loop-count

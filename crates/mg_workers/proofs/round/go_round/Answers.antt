@@ -51,8 +51,8 @@ returns-clause-memory g c =
 pub returns-in_err-seats-clause-memory : goal.returns-in_err-seats-clause-memory
 returns-in_err-seats-clause-memory g c =
     any_err _
-    (came_nowhere (record { valid = g.R.Record.valid; settles = g.R.Record.settled; model_of = g.R.Record.modelled })
-    (record { key = g.S.Searcher.key_of; group = g.S.Searcher.group_of; spent = g.S.Searcher.spent_of; is_open = g.S.Searcher.is_open_of; wants = g.S.Searcher.wants_of; turns = g.S.Searcher.turns })
+    (came_nowhere g.R.Record.recording
+    g.S.Searcher.searching
     c.args.searches c.args.book.now)
     _
 

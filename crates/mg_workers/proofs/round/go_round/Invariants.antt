@@ -5,8 +5,8 @@ use Rattle.mg_workers.proofs.round.go_round.Given as goal
 
 abbrev pub invariant-loop-seats : goal.invariant-loop-seats
 invariant-loop-seats g l =
-    Went (record { valid = g.R.Record.valid; settles = g.R.Record.settled; model_of = g.R.Record.modelled })
-    (record { key = g.S.Searcher.key_of; group = g.S.Searcher.group_of; spent = g.S.Searcher.spent_of; is_open = g.S.Searcher.is_open_of; wants = g.S.Searcher.wants_of; turns = g.S.Searcher.turns })
+    Went g.R.Record.recording
+    g.S.Searcher.searching
     l.fn.searches l.fn.book l.seats.items l.book
 
 abbrev pub decreases-loop-seats : goal.decreases-loop-seats

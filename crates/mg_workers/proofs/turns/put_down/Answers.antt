@@ -23,7 +23,7 @@ returns-clause-ok g c =
     } in
     let with_upto : Facts g.row.R.Denot → Facts g.row.R.Denot = λ facts. record facts { upto = c.args.upto } in
     record {
-      is_dropped = subst (λ k. (dropped ≡ true) ↔ Settled g.R.Record.settled log k) c.key.ensures c.in_ok-dropped.ensures.dropped;
+      is_dropped = subst (λ k. (dropped ≡ true) ↔ Settled g.R.Record.recording.settles log k) c.key.ensures c.in_ok-dropped.ensures.dropped;
       log_is = c.in_ok-dropped.ensures.log ∙ ap (λ entry. log ++ entry ∷ []) (entry_is 1 (row_at seat) outcome dropped (with_records c.records_in.result) (ap with_records c.records_in.ensures));
       row_is = λ facts same.
           row_is seat c.count_turn.new.self seat.held.search (with_upto facts) outcome dropped c.was_stopped.result c.end_if_kept.result c.was_stopped.ensures c.end_if_kept.ensures c.count_turn.ensures.held c.count_turn.ensures.left c.count_turn.ensures.looked

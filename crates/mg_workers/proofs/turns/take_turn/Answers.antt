@@ -7,11 +7,11 @@ use Rattle.mg_workers.proofs.turns.take_turn.Goals as goal
 
 pub turn-requires-clause-of_group : goal.turn-requires-clause-of_group
 turn-requires-clause-of_group g c =
-    subst (λ group. AllByRecursion (λ r. g.R.Record.modelled r ≡ Some group) c.in_ok-facts.facts.records) c.group.ensures
-    (handed_of_group g.R.Record.modelled c.group.result.now c.args.book.now c.args.seat.now.held.read c.wants-wants.result c.in_ok-facts.facts c.in_ok-facts.ensures)
+    subst (λ group. AllByRecursion (λ r. g.R.Record.recording.model_of r ≡ Some group) c.in_ok-facts.facts.records) c.group.ensures
+    (handed_of_group g.R.Record.recording.model_of c.group.result.now c.args.book.now c.args.seat.now.held.read c.wants-wants.result c.in_ok-facts.facts c.in_ok-facts.ensures)
 
 pub put_down-requires-clause-of_key : goal.put_down-requires-clause-of_key
-put_down-requires-clause-of_key g c = brings_settling _ _ _ _ _ _ _ c.in_ok-outcome.ensures.sound _ refl (λ r valid model. (g.met.R.Record.one_of_both r valid).1 model) _ c.in_ok-outcome.ensures.sound.key
+put_down-requires-clause-of_key g c = brings_settling _ _ _ _ _ _ _ c.in_ok-outcome.ensures.sound _ refl (λ r valid model. (g.met.R.Record.lawful.one_of_both r valid).1 model) _ c.in_ok-outcome.ensures.sound.key
 
 pub returns-clause-event : goal.returns-clause-event
 returns-clause-event g c =
@@ -19,8 +19,8 @@ returns-clause-event g c =
     let log = c.args.book.now in
     let facts = c.in_ok-facts.facts in
     let outcome = c.in_ok-outcome.outcome in
-    let handed = subst (λ group. Handed g.R.Record.modelled log group seat.held.read c.wants-wants.result facts) c.group.ensures c.in_ok-facts.ensures in
-    let handed_wanted = subst (λ most. Handed g.R.Record.modelled log (g.S.Searcher.group_of seat.held.search) seat.held.read most facts) c.wants-wants.ensures handed in
+    let handed = subst (λ group. Handed g.R.Record.recording.model_of log group seat.held.read c.wants-wants.result facts) c.group.ensures c.in_ok-facts.ensures in
+    let handed_wanted = subst (λ most. Handed g.R.Record.recording.model_of log (g.S.Searcher.searching.group seat.held.search) seat.held.read most facts) c.wants-wants.ensures handed in
     event_put _ _ seat c.put_down.new.seat log c.put_down.new.book c.turn.new.search c.min-units.result facts outcome c.in_ok-dropped.dropped c.requires.fit c.requires.stays c.requires.allowed c.min-units.ensures handed_wanted
     c.in_ok-outcome.ensures.turns c.in_ok-outcome.ensures.sound.key c.in_ok-outcome.ensures.once c.in_ok-dropped.ensures.ok
 
@@ -30,10 +30,10 @@ returns-clause-alike g c =
     let put = c.in_ok-dropped.ensures.ok in (
       λ alike.
           let told = c.may_follow.ensures.0 alike in
-          follows_put g.R.Record.settled g.S.Searcher.key_of c.args.book.now c.put_down.new.book before c.put_down.new.seat c.in_ok-facts.facts
+          follows_put g.R.Record.recording.settles g.S.Searcher.searching.key c.args.book.now c.put_down.new.book before c.put_down.new.seat c.in_ok-facts.facts
           c.in_ok-outcome.outcome c.in_ok-dropped.dropped (c.is_whole-whole.ensures.0 told.0) told.1 put told.2 told.3,
       λ follows.
-          let made = put_follows g.R.Record.settled g.S.Searcher.key_of c.args.book.now c.put_down.new.book before c.put_down.new.seat c.in_ok-facts.facts
+          let made = put_follows g.R.Record.recording.settles g.S.Searcher.searching.key c.args.book.now c.put_down.new.book before c.put_down.new.seat c.in_ok-facts.facts
           c.in_ok-outcome.outcome c.in_ok-dropped.dropped put follows in
           c.may_follow.ensures.1 (c.is_whole-whole.ensures.1 made.0, made.1, follows.unlooked, made.2),
     )

@@ -11,21 +11,21 @@ loop-made-init g c = wholly_in _ _ c.args.seat.now c.args.book.now c.most_whole-
 
 pub turn_told-requires-clause-of_group : goal.turn_told-requires-clause-of_group
 turn_told-requires-clause-of_group g c =
-    subst (λ group. AllByRecursion (λ r. g.R.Record.modelled r ≡ Some group) c.in_ok-facts.facts.records) c.group.ensures
-    (handed_of_group g.R.Record.modelled c.group.result.now c.loop-made.book c.loop-made.read c.wants-wants.result c.in_ok-facts.facts c.in_ok-facts.ensures)
+    subst (λ group. AllByRecursion (λ r. g.R.Record.recording.model_of r ≡ Some group) c.in_ok-facts.facts.records) c.group.ensures
+    (handed_of_group g.R.Record.recording.model_of c.group.result.now c.loop-made.book c.loop-made.read c.wants-wants.result c.in_ok-facts.facts c.in_ok-facts.ensures)
 
 pub put_down-requires-clause-of_key : goal.put_down-requires-clause-of_key
 put_down-requires-clause-of_key g c =
-    brings_settling _ _ _ _ _ _ _ c.in_ok-outcome.ensures.sound _ refl (λ r valid model. (g.met.R.Record.one_of_both r valid).1 model) _
-    (ap (λ s. g.S.Searcher.key_of s.held.search) c.count_whole.ensures ∙ c.in_ok-outcome.ensures.sound.key)
+    brings_settling _ _ _ _ _ _ _ c.in_ok-outcome.ensures.sound _ refl (λ r valid model. (g.met.R.Record.lawful.one_of_both r valid).1 model) _
+    (ap (λ s. g.S.Searcher.searching.key s.held.search) c.count_whole.ensures ∙ c.in_ok-outcome.ensures.sound.key)
 
 pub returns-then-not-is_whole-clause-runs : goal.returns-then-not-is_whole-clause-runs
 returns-then-not-is_whole-clause-runs g c =
     let seat = c.loop-made.seat in
     let read = c.loop-made.read in
     let facts = c.in_ok-facts.facts in
-    let handed = subst (λ group. Handed g.R.Record.modelled c.loop-made.book group read c.wants-wants.result facts) c.group.ensures c.in_ok-facts.ensures in
-    let handed_wanted = subst (λ most. Handed g.R.Record.modelled c.loop-made.book (g.S.Searcher.group_of seat.held.search) read most facts) c.wants-wants.ensures handed in
+    let handed = subst (λ group. Handed g.R.Record.recording.model_of c.loop-made.book group read c.wants-wants.result facts) c.group.ensures c.in_ok-facts.ensures in
+    let handed_wanted = subst (λ most. Handed g.R.Record.recording.model_of c.loop-made.book (g.S.Searcher.searching.group seat.held.search) read most facts) c.wants-wants.ensures handed in
     (wholly_last _ _ c.args.seat.now c.args.book.now seat c.loop-made.book c.loop-made.made c.most_whole-most.result read c.loop-made.invariant g.met.S.Searcher.sound (search rules) c.turn_told.new.search facts c.in_ok-outcome.outcome c.put_down.new.book handed_wanted
     c.in_ok-outcome.ensures.turns c.in_ok-outcome.ensures.sound.key c.in_ok-put_down.field-0 c.count_whole.new.self c.put_down.new.seat c.count_whole.ensures c.in_ok-put_down.ensures.ok).runs
 
@@ -34,8 +34,8 @@ returns-then-not-is_whole-clause-fit g c =
     let seat = c.loop-made.seat in
     let read = c.loop-made.read in
     let facts = c.in_ok-facts.facts in
-    let handed = subst (λ group. Handed g.R.Record.modelled c.loop-made.book group read c.wants-wants.result facts) c.group.ensures c.in_ok-facts.ensures in
-    let handed_wanted = subst (λ most. Handed g.R.Record.modelled c.loop-made.book (g.S.Searcher.group_of seat.held.search) read most facts) c.wants-wants.ensures handed in
+    let handed = subst (λ group. Handed g.R.Record.recording.model_of c.loop-made.book group read c.wants-wants.result facts) c.group.ensures c.in_ok-facts.ensures in
+    let handed_wanted = subst (λ most. Handed g.R.Record.recording.model_of c.loop-made.book (g.S.Searcher.searching.group seat.held.search) read most facts) c.wants-wants.ensures handed in
     (wholly_last _ _ c.args.seat.now c.args.book.now seat c.loop-made.book c.loop-made.made c.most_whole-most.result read c.loop-made.invariant g.met.S.Searcher.sound (search rules) c.turn_told.new.search facts c.in_ok-outcome.outcome c.put_down.new.book handed_wanted
     c.in_ok-outcome.ensures.turns c.in_ok-outcome.ensures.sound.key c.in_ok-put_down.field-0 c.count_whole.new.self c.put_down.new.seat c.count_whole.ensures c.in_ok-put_down.ensures.ok).fit
 
@@ -44,7 +44,7 @@ commit_next-requires-clause-last g c = (c.loop-made.invariant.follows.last, last
 
 pub commit_next-requires-clause-unsettled : goal.commit_next-requires-clause-unsettled
 commit_next-requires-clause-unsettled g c settled =
-    c.loop-made.invariant.follows.unsettled (subst (λ key. Settled g.R.Record.settled c.loop-made.book key) (c.key.ensures ∙ c.in_ok-outcome.ensures.sound.key) settled)
+    c.loop-made.invariant.follows.unsettled (subst (λ key. Settled g.R.Record.recording.settles c.loop-made.book key) (c.key.ensures ∙ c.in_ok-outcome.ensures.sound.key) settled)
 
 pub loop-made-preserved : goal.loop-made-preserved
 loop-made-preserved g c =
@@ -52,8 +52,8 @@ loop-made-preserved g c =
     let read = c.loop-made.read in
     let facts = c.in_ok-facts.facts in
     let was = c.loop-made.invariant in
-    let handed = subst (λ group. Handed g.R.Record.modelled c.loop-made.book group read c.wants-wants.result facts) c.group.ensures c.in_ok-facts.ensures in
-    let handed_wanted = subst (λ most. Handed g.R.Record.modelled c.loop-made.book (g.S.Searcher.group_of seat.held.search) read most facts) c.wants-wants.ensures handed in
+    let handed = subst (λ group. Handed g.R.Record.recording.model_of c.loop-made.book group read c.wants-wants.result facts) c.group.ensures c.in_ok-facts.ensures in
+    let handed_wanted = subst (λ most. Handed g.R.Record.recording.model_of c.loop-made.book (g.S.Searcher.searching.group seat.held.search) read most facts) c.wants-wants.ensures handed in
     wholly_next _ _ c.args.seat.now c.args.book.now seat c.loop-made.book c.loop-made.made c.most_whole-most.result read was g.met.S.Searcher.sound (search rules) c.turn_told.new.search facts c.in_ok-outcome.outcome c.commit_next.new.self handed_wanted
     c.in_ok-outcome.ensures.turns c.in_ok-outcome.ensures.sound.key (c.is_whole.ensures.0 (search rules)) (c.in_ok-commit_next.ensures.ok was.follows.last (last_is_empty _ _ _ _ was.follows)).1
 

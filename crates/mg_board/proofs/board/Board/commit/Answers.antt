@@ -12,13 +12,13 @@ returns-clause-ok g c =
     let v = c.pass.inside.seat.me.0 in
     let now : PassState (EntryOf g.row.R.Denot) = state_of c.release.new.seat.table_id c.release.new.seat.me.0 in
     let t = c.take_turn.ensures.turn in
-    if_ok_map _ (λ receipt. CommitsAt g.R.Record.settled c.args.key.now c.args.entry c.args.pass.now now receipt) (λ receipt w.
+    if_ok_map _ (λ receipt. CommitsAt g.R.Record.recording.settles c.args.key.now c.args.entry c.args.pass.now now receipt) (λ receipt w.
     let held : t.0 ≡ w.0 = (let a = ap (λ m. m.0.hand) t.2 in let b = w.2.hand in cc (a, b)) in
     let last : now.seen ≡ w.1 = ap (λ m. m.0.seen) c.release.ensures.turn ∙ ap (λ m. m.0.seen) w.4 in
     record {
       log = t.0;
       reached = subst (λ p. Reaches pass_of p.numbers p.seen t.0) c.pass.view_is t.1;
-      answered = subst₂ (λ old new. Commits g.R.Record.settled c.args.key.now old c.args.entry new receipt.committed) (sym held) (sym last) w.3;
+      answered = subst₂ (λ old new. Commits g.R.Record.recording.settles c.args.key.now old c.args.entry new receipt.committed) (sym held) (sym last) w.3;
     })
     c.commit_in_turn-receipt.result c.commit_in_turn-receipt.ensures.ok
 

@@ -30,4 +30,4 @@ returns-clause-ok g c =
     let saw = c.look.ensures.seen t.0 turn in
     let still : HasTurn c.look.new.seat.me t.0 = record { hand = ap (λ m. m.0.hand) saw ∙ turn.hand; slot = ap (λ m. m.1) saw ∙ turn.slot } in
     let seen : c.release.new.seat.me.0.seen ≡ t.0 = ap (λ m. m.0.seen) c.release.ensures.turn ∙ (ap (λ m. m.0.seen) c.models-facts.ensures.same ∙ ap (λ m. m.0.seen) saw) in
-    subst (λ l. IfOk c.models-facts.result (Handed g.R.Record.modelled l c.args.group.now c.args.after c.args.most)) (sym seen) (c.models-facts.ensures.ok t.0 still)
+    subst (λ l. IfOk c.models-facts.result (Handed g.R.Record.recording.model_of l c.args.group.now c.args.after c.args.most)) (sym seen) (c.models-facts.ensures.ok t.0 still)

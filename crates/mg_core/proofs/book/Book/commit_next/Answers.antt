@@ -11,7 +11,7 @@ go_on-requires-clause-some g c =
 pub invariant_of-self-2 : goal.invariant_of-self-2
 invariant_of-self-2 g c =
     let count : c.in-Some.count ≡ c.self.inside.count + 1 = search rules in
-    rw count (book_longer g.R.Record.valid g.R.Record.settled g.R.Key.Ord.cmp c.self.inside.facts.items c.self.inside.streaks.items c.self.inside.count c.self.inside.places.items c.self.invariant c.go_on.new.streaks.items c.in_ok-go_on.ensures.ok)
+    rw count (book_longer g.R.Record.recording.valid g.R.Record.recording.settles g.R.Key.Ord.cmp c.self.inside.facts.items c.self.inside.streaks.items c.self.inside.count c.self.inside.places.items c.self.invariant c.go_on.new.streaks.items c.in_ok-go_on.ensures.ok)
 
 pub returns-clause-ok : goal.returns-clause-ok
 returns-clause-ok g c last is =

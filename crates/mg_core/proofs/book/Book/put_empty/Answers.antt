@@ -9,7 +9,7 @@ invariant_of-self-2 g c =
     let now = c.put_turn.new.streaks.items in
     let joins : Joins streaks (alone c.args.entry.now c.args.dropped 0) now = subst (λ s. Joins streaks s now) c.turn_of.ensures.alone c.in_ok-put_turn.ensures.ok in
     let count : c.in-Some.place ≡ c.self.inside.count + 1 = search rules in
-    rw count (book_empty g.R.Record.valid g.R.Record.settled g.R.Key.Ord.cmp c.self.inside.facts.items streaks c.self.inside.count c.self.inside.places.items c.self.invariant c.args.entry.now c.args.dropped now
+    rw count (book_empty g.R.Record.recording.valid g.R.Record.recording.settles g.R.Key.Ord.cmp c.self.inside.facts.items streaks c.self.inside.count c.self.inside.places.items c.self.invariant c.args.entry.now c.args.dropped now
     (subst IsNumbered c.turn_of.ensures.alone c.turn_of.ensures.numbered) joins)
 
 pub returns-clause-ok : goal.returns-clause-ok
@@ -17,7 +17,7 @@ returns-clause-ok g c =
     let streaks = c.self.inside.streaks.items in
     let now = c.put_turn.new.streaks.items in
     let joins : Joins streaks (alone c.args.entry.now c.args.dropped 0) now = subst (λ s. Joins streaks s now) c.turn_of.ensures.alone c.in_ok-put_turn.ensures.ok in
-    log_empty g.R.Record.valid g.R.Record.settled g.R.Key.Ord.cmp c.self.inside.facts.items streaks c.self.inside.count c.self.inside.places.items c.self.invariant c.args.entry.now c.args.dropped now joins
+    log_empty g.R.Record.recording.valid g.R.Record.recording.settles g.R.Key.Ord.cmp c.self.inside.facts.items streaks c.self.inside.count c.self.inside.places.items c.self.invariant c.args.entry.now c.args.dropped now joins
     ∙ ap (λ log. log ++ record (c.args.entry.now) { dropped = c.args.dropped; records = [] } ∷ []) c.self.view_is
 
 pub returns-clause-place : goal.returns-clause-place
@@ -26,6 +26,6 @@ returns-clause-place g c =
     let now = c.put_turn.new.streaks.items in
     let joins : Joins streaks (alone c.args.entry.now c.args.dropped 0) now = subst (λ s. Joins streaks s now) c.turn_of.ensures.alone c.in_ok-put_turn.ensures.ok in
     let count : c.in-Some.place ≡ c.self.inside.count + 1 = search rules in
-    let after = book_empty g.R.Record.valid g.R.Record.settled g.R.Key.Ord.cmp c.self.inside.facts.items streaks c.self.inside.count c.self.inside.places.items c.self.invariant c.args.entry.now c.args.dropped now
+    let after = book_empty g.R.Record.recording.valid g.R.Record.recording.settles g.R.Key.Ord.cmp c.self.inside.facts.items streaks c.self.inside.count c.self.inside.places.items c.self.invariant c.args.entry.now c.args.dropped now
     (subst IsNumbered c.turn_of.ensures.alone c.turn_of.ensures.numbered) joins in
     count ∙ after.count_is

@@ -1,10 +1,11 @@
 -- A search made up for examples: it reads no models, and finds at its third unit.
 use Rattle.std.specs.Prelude.{◌≡◌, ℕ, ◌+◌, ◌≤◌, nat_lt, Some, [], ◌∷◌}
+use Rattle.mg_core.specs.Recording.{Recording}
 use Rattle.mg_core.specs.declared.entries.Facts.{Facts}
 use Rattle.mg_turn.specs.declared.outcome.Outcome.{Outcome}
 use Rattle.mg_turn.specs.declared.outcome.TurnEnd.{TurnEnd}
 use Rattle.mg_turn.specs.declared.outcome.TurnEnd.TheVariants.{More, Found, Closed, Idle, Stopped, Full}
-use Rattle.mg_turn.specs.Turn.{Recording, Searching, goes_on}
+use Rattle.mg_turn.specs.Turn.{Searching, goes_on}
 
 pub record Third (K G : Type 0) : Type 0 where
   pub key : K

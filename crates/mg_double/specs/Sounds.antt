@@ -1,11 +1,12 @@
 -- Searches whose turns are sound.
 use Rattle.std.proofs.Common.{◌≡◌, ℕ, ◌≤◌, nat_lt, Some, refl, ap, sym, ◌∙◌, subst, lit≤}
 use Rattle.std.specs.List.{AllByRecursion}
+use Rattle.mg_core.specs.Recording.{Recording}
 use Rattle.mg_core.specs.declared.entries.Facts.{Facts}
 use Rattle.mg_turn.specs.declared.outcome.TurnEnd.{TurnEnd}
 use Rattle.mg_turn.specs.declared.outcome.TurnEnd.TheVariants.{More, Found, Closed, Idle, Stopped, Full}
-use Rattle.mg_turn.specs.Turn.{Recording, Searching, Sound, EndFits, Settles, records_of}
-use Rattle.mg_turn.specs.Third.{Third, ThirdEnd, third, seen_as}
+use Rattle.mg_turn.specs.Turn.{Searching, Sound, EndFits, Settles, records_of}
+use Rattle.mg_double.specs.Third.{Third, ThirdEnd, third, seen_as}
 
 end_as : {R K G S T : Type 0} (recording : Recording R K G) (searching : Searching R K G T) (see : S → T) (search : S) (units : ℕ) (facts : Facts R) (spent : ℕ) (end : TurnEnd R) → EndFits recording searching (see search) units facts spent end → EndFits recording (seen_as see searching) search units facts spent end
 end_as recording searching see search units facts spent More h = h

@@ -2,8 +2,8 @@
 ghost use Rattle.std.specs.Prelude.{◌≡◌, []};
 
 use super::*;
-use crate::example::{Finder, Knows, Mark};
 use mg_core::{Facts, Records};
+use mg_turn::{Searcher, TurnEnd};
 use std::alloc::Global;
 use std::test::Fail;
 
