@@ -1,82 +1,15 @@
-ghost use Rattle.std.specs.Prelude.{◌≡◌, ◌≤◌, true, IfOk, length};
-ghost use Rattle.std.specs.List.{AllByRecursion};
-ghost use Rattle.mg_present.specs.Ask.{IsReducedOver};
-ghost use Rattle.mg_present.specs.Presentation.{IsRelator};
+//! Searches and acceptance for worked Asks. In texts of symbols `r`, `s` and `t` are the relators, `h`
+//! and `k` the subgroup words, `R`, `H` and `K` inverses of these, `;` the cut, and `a`, `b`, `A` and
+//! `B` letters.
+ghost use Rattle.std.specs.Prelude.{◌≡◌, ◌≤◌, true};
 
 use super::*;
+use mg_fixtures::{ask, ask_in, copies, group, letter, part};
 use mg_numbers::{Advance, Digits};
-use mg_present::{Ask, Presentation};
-use mg_words::{Letter, Word, Words, is_over, is_reduced};
-use std::alloc::{AllocError, Global};
-use std::test::Fail;
+use mg_words::Words;
+use std::alloc::Global;
 
-// The Asks here, with words as texts: `a` and `b` are generators, `A` and `B` their inverses, and each word ends
-// with a full stop. In texts of symbols `r`, `s` and `t` are the relators, `h` and `k` the subgroup words, `R`, `H`
-// and `K` inverses of these, and `;` the cut.
-#[derive(Clone, Copy)]
-struct Case {
-    generators: u32,
-    relators: &'static [u8],
-    subgroup: &'static [u8],
-    goals: &'static [u8],
-}
-
-const NOTHING: Case = Case {
-    generators: 0,
-    relators: b"",
-    subgroup: b"",
-    goals: b"",
-};
-
-const ONE: Case = Case {
-    generators: 1,
-    relators: b"aa.",
-    subgroup: b"",
-    goals: b".",
-};
-
-const SQUARE: Case = Case {
-    generators: 1,
-    relators: b"aa.",
-    subgroup: b"",
-    goals: b"aa.",
-};
-
-const TWO_SQUARES: Case = Case {
-    generators: 1,
-    relators: b"aa.",
-    subgroup: b"",
-    goals: b"aa.aa.",
-};
-
-const CONJUGATE: Case = Case {
-    generators: 2,
-    relators: b"aa.",
-    subgroup: b"",
-    goals: b"baaB.",
-};
-
-const SYMMETRIC: Case = Case {
-    generators: 2,
-    relators: b"aa.bbb.abab.",
-    subgroup: b"b.",
-    goals: b"aba.",
-};
-
-const FREE: Case = Case {
-    generators: 2,
-    relators: b"",
-    subgroup: b"aa.ab.",
-    goals: b"Ba.",
-};
-
-// The letter that is written so.
-fn letter(byte: u8) -> Letter {
-    Letter {
-        generator: if byte == b'a' || byte == b'A' { 1 } else { 2 },
-        inverse: byte == b'A' || byte == b'B',
-    }
-}
+const FREE: &str = "2 | aa ab | Ba";
 
 // The symbol that is written so.
 fn symbol(byte: u8) -> Symbol {
@@ -97,74 +30,78 @@ fn symbol(byte: u8) -> Symbol {
             place: if byte == b'H' { 1 } else { 2 },
             inverse: true,
         },
-        b';' => Symbol::Cut,
-        _ => Symbol::Letter(letter(byte)),
+        _ => match letter(byte) {
+            Some(letter) => Symbol::Letter(letter),
+            None => Symbol::Cut,
+        },
     }
 }
 
-// These words, where each is reduced, over the generators and short; else no memory.
-fn words(alloc: Global, generators: u32, text: &[u8]) -> Result<Words, NoMemory>
-    ensures relators { IfOk result (λ words. AllByRecursion (IsRelator generators) words) }
-    ensures members { IfOk result (λ words. AllByRecursion (IsReducedOver generators) words) }
-    ensures count { IfOk result (λ words. length words ≤ length text.now) }
-{
-    let mut words = Words::new(alloc);
-    let mut word = Word::new(alloc);
-    for &byte in text {
-        if byte != b'.' {
-            word.push_all(&[letter(byte)])?;
-            continue;
-        }
-        if !is_reduced(&word) || !is_over(generators, &word) || word.letters().len() > 10_000 {
-            return Err(AllocError);
-        }
-        words.push(word)?;
-        word = Word::new(alloc);
-    }
-    Ok(words)
-}
-
-// The Ask of the case, where its texts are short; else no memory.
-fn ask_of(alloc: Global, case: &Case) -> Result<Ask, NoMemory> {
-    let generators = case.generators;
-    if generators > 64
-        || case.relators.len() > 64
-        || case.subgroup.len() > 64
-        || case.goals.len() > 64
-    {
-        return Err(AllocError);
-    }
-    let group = Presentation::new(generators, words(alloc, generators, case.relators)?);
-    let subgroup = words(alloc, generators, case.subgroup)?;
-    let goals = words(alloc, generators, case.goals)?;
-    Ok(Ask::new(group, subgroup, goals))
-}
-
-// The text that is written so.
-fn text_of(alloc: Global, bytes: &[u8]) -> Result<Derivation, NoMemory> {
+// The text that is written so; shorter where memory fails.
+fn text_of(alloc: Global, text: &str) -> Option<Derivation> {
     let mut symbols = Vec::new(alloc);
-    for &byte in bytes {
-        symbols.push(symbol(byte))?;
+    for byte in text.bytes() {
+        let _ = symbols.push(symbol(byte));
     }
-    Derivation::from_symbols(alloc, symbols.as_slice())
+    Derivation::from_symbols(alloc, symbols.as_slice()).ok()
+}
+
+// Whether this is the text that is written so.
+fn is_text(alloc: Global, found: &Derivation, text: &str) -> bool {
+    match text_of(alloc, text) {
+        Some(expected) => found.symbols() == expected.symbols(),
+        None => false,
+    }
 }
 
 // Whether the search stands at this number with the text that is written so.
-fn stands_at(
-    alloc: Global,
-    search: &Enumeration,
-    number: u64,
-    text: &[u8],
-) -> Result<bool, NoMemory> {
-    let text = text_of(alloc, text)?;
-    Ok(search.cursor() == number && search.text().symbols() == text.symbols())
+fn stands_at(alloc: Global, search: &Enumeration, number: u64, text: &str) -> bool {
+    search.cursor() == number && is_text(alloc, search.text(), text)
 }
 
-// Whether the search of the case finds this text, at this number and not before.
-fn finds(alloc: Global, case: &Case, number: u64, text: &[u8]) -> Result<bool, NoMemory> {
-    let mut search = Enumeration::start(alloc, ask_of(alloc, case)?)?;
+// Whether the search of the Ask at the front of the line finds the text at its end, at the number before
+// that text and not earlier.
+fn finds(alloc: Global, line: &str) -> Option<bool> {
+    let number = part(line, 3).parse::<u64>().ok()?;
+    let ask = ask(alloc, line)?;
+    let Ok(mut search) = Enumeration::start(alloc, ask) else {
+        return None;
+    };
     let end = search.advance(300_000);
-    Ok(end == (Advance::Found { spent: number }) && stands_at(alloc, &search, number, text)?)
+    Some(
+        end == (Advance::Found { spent: number })
+            && stands_at(alloc, &search, number, part(line, 4)),
+    )
+}
+
+const FIRST_TEXTS: &str = "0 | | | 1 |
+1 aa | | 1 | 6 | ;
+1 aa | | aa | 21 | r;
+1 aa | | aa aa | 521 | r;r;
+2 aa | | baaB | 1310 | brB;
+2 aa bbb abab | b | aba | 1691 | tH;";
+
+#[test]
+fn first_texts(rt: HostRuntime) {
+    for line in FIRST_TEXTS.lines() {
+        assert!(rt; finds(rt.alloc(), line) == Some(true), "{line}");
+    }
+}
+
+// Whether the search finds as many cuts as goals where these are 4,096 empty words in the trivial group.
+fn cuts_are_found(alloc: Global) -> Option<bool> {
+    let group = group(alloc, "0")?;
+    let ask = ask_in(group, Words::new(alloc), copies(alloc, "1", 4_096))?;
+    let Ok(mut search) = Enumeration::start(alloc, ask) else {
+        return None;
+    };
+    let end = search.advance(5_000);
+    Some(end == (Advance::Found { spent: 4_097 }) && search.text().symbols().len() == 4_096)
+}
+
+#[test]
+fn an_ask_with_one_symbol_is_settled_by_cuts(rt: HostRuntime) {
+    assert!(rt; cuts_are_found(rt.alloc()) == Some(true));
 }
 
 // In how many turns of so many units the search ends, but one.
@@ -182,106 +119,90 @@ fn turns_before_the_last(search: &mut Enumeration, units: u64) -> u32
 }
 
 // Whether the search in a free group finds its text after so many turns of so many units.
-fn finds_in_turns(alloc: Global, units: u64, turns: u32) -> Result<bool, NoMemory>
+fn finds_in_turns(alloc: Global, units: u64, turns: u32) -> Option<bool>
     requires least { 1 ≤ units }
     requires most { units ≤ 1_000 }
 {
-    let mut search = Enumeration::start(alloc, ask_of(alloc, &FREE)?)?;
+    let ask = ask(alloc, FREE)?;
+    let Ok(mut search) = Enumeration::start(alloc, ask) else {
+        return None;
+    };
     let goals = search.ask().goals().len();
     let made = turns_before_the_last(&mut search, units);
-    Ok(goals == 1 && made == turns && stands_at(alloc, &search, 703, b"Kh;")?)
+    Some(goals == 1 && made == turns && stands_at(alloc, &search, 703, "Kh;"))
 }
 
-// Whether the search finds as many cuts as goals where these are 4,096 empty words in the trivial group.
-fn cuts_are_found(alloc: Global) -> Result<bool, NoMemory> {
-    let goals = words(alloc, 0, Vec::from_elem(alloc, b'.', 4_096)?.as_slice())?;
-    if goals.len() > 4_096 {
-        return Err(AllocError);
+#[test]
+fn turns_of_any_size_find_the_same(rt: HostRuntime) {
+    for (units, turns) in [(1, 702), (7, 100), (702, 1), (1_000, 0)] {
+        assert!(rt;
+            finds_in_turns(rt.alloc(), units, turns) == Some(true),
+            "{units}"
+        );
     }
-    let group = Presentation::new(0, Words::new(alloc));
-    let mut search = Enumeration::start(alloc, Ask::new(group, Words::new(alloc), goals))?;
-    let end = search.advance(5_000);
-    Ok(end == (Advance::Found { spent: 4_097 }) && search.text().symbols().len() == 4_096)
 }
 
-// Whether the text is accepted for the Ask of the case.
-fn is_accepted(alloc: Global, case: &Case, bytes: &[u8]) -> Result<bool, NoMemory> {
-    let ask = ask_of(alloc, case)?;
-    let text = text_of(alloc, bytes)?;
-    let mut buffers = Buffers::for_text(alloc, &ask, &text)?;
-    Ok(accepts(&ask, &text, &mut buffers))
+// Whether the text at the end of the line is accepted for the Ask at its front.
+fn is_accepted(alloc: Global, line: &str) -> Option<bool> {
+    let ask = ask(alloc, line)?;
+    let text = text_of(alloc, part(line, 3))?;
+    match Buffers::for_text(alloc, &ask, &text) {
+        Ok(mut buffers) => Some(accepts(&ask, &text, &mut buffers)),
+        Err(_) => None,
+    }
 }
 
 // Whether the text, of at most three symbols, is accepted for the Ask in a free group with room for three.
-fn is_accepted_in_three(alloc: Global, bytes: &[u8]) -> Result<bool, NoMemory> {
-    let ask = ask_of(alloc, &FREE)?;
-    let text = text_of(alloc, bytes)?;
+fn is_accepted_in_three(alloc: Global, text: &str) -> Option<bool> {
+    let ask = ask(alloc, FREE)?;
+    let text = text_of(alloc, text)?;
     if text.symbols().len() > 3 {
-        return Ok(false);
+        return None;
     }
-    let mut buffers = Buffers::for_length(alloc, &ask, 3)?;
-    Ok(accepts(&ask, &text, &mut buffers))
+    match Buffers::for_length(alloc, &ask, 3) {
+        Ok(mut buffers) => Some(accepts(&ask, &text, &mut buffers)),
+        Err(_) => None,
+    }
+}
+
+#[test]
+fn texts_are_accepted_or_refused(rt: HostRuntime) {
+    let alloc = rt.alloc();
+    assert!(rt; is_accepted(alloc, "2 | aa ab | Ba | Kh;") == Some(true));
+    assert!(rt; is_accepted(alloc, "2 | aa ab | Ba | KaAh;") == Some(false));
+    assert!(rt; is_accepted(alloc, "2 aa | | baaB | baaBRbAABbrBr;") == Some(true));
+    assert!(rt; is_accepted_in_three(alloc, "Kh;") == Some(true));
+    assert!(rt; is_accepted_in_three(alloc, "t;") == Some(false));
 }
 
 // Whether this is the text with the number 703 of the Ask in a free group.
-fn is_text_703(alloc: Global, bytes: &[u8]) -> Result<bool, NoMemory> {
-    let ask = ask_of(alloc, &FREE)?;
-    let mut text = Derivation::with_room(alloc, 4_096)?;
-    let mut digits = Digits::make(alloc)?;
-    symbols_at(&ask, 703, &mut text, &mut digits);
-    let wanted = text_of(alloc, bytes)?;
-    Ok(text.copy(alloc)?.symbols() == wanted.symbols())
+fn is_text_703(alloc: Global, text: &str) -> Option<bool> {
+    let ask = ask(alloc, FREE)?;
+    let Ok(mut found) = Derivation::with_room(alloc, 4_096) else {
+        return None;
+    };
+    let Ok(mut digits) = Digits::make(alloc) else {
+        return None;
+    };
+    symbols_at(&ask, 703, &mut found, &mut digits);
+    match found.copy(alloc) {
+        Ok(copy) => Some(is_text(alloc, &copy, text)),
+        Err(_) => None,
+    }
 }
 
 // Whether the digit 8 of 9 is that of the inverse of the second subgroup word.
-fn digit_comes_back(alloc: Global) -> Result<bool, NoMemory> {
-    let ask = ask_of(alloc, &FREE)?;
+fn digit_comes_back(alloc: Global) -> Option<bool> {
+    let ask = ask(alloc, FREE)?;
     if symbol_count(&ask) != 9 {
-        return Ok(false);
+        return None;
     }
     let sign = symbol_of(&ask, 8);
-    Ok(digit_of(&ask, sign) == 8 && sign == symbol(b'K'))
+    Some(digit_of(&ask, sign) == 8 && sign == symbol(b'K'))
 }
 
 #[test]
-fn first_texts(rt: HostRuntime) -> Result<(), Fail> {
-    assert!(rt; finds(rt.alloc(), &NOTHING, 1, b"")?);
-    assert!(rt; finds(rt.alloc(), &ONE, 6, b";")?);
-    assert!(rt; finds(rt.alloc(), &SQUARE, 21, b"r;")?);
-    assert!(rt; finds(rt.alloc(), &TWO_SQUARES, 521, b"r;r;")?);
-    assert!(rt; finds(rt.alloc(), &CONJUGATE, 1_310, b"brB;")?);
-    assert!(rt; finds(rt.alloc(), &SYMMETRIC, 1_691, b"tH;")?);
-    Ok(())
-}
-
-#[test]
-fn an_ask_with_one_symbol_is_settled_by_cuts(rt: HostRuntime) -> Result<(), Fail> {
-    assert!(rt; cuts_are_found(rt.alloc())?);
-    Ok(())
-}
-
-#[test]
-fn turns_of_any_size_find_the_same(rt: HostRuntime) -> Result<(), Fail> {
-    assert!(rt; finds_in_turns(rt.alloc(), 1, 702)?);
-    assert!(rt; finds_in_turns(rt.alloc(), 7, 100)?);
-    assert!(rt; finds_in_turns(rt.alloc(), 702, 1)?);
-    assert!(rt; finds_in_turns(rt.alloc(), 1_000, 0)?);
-    Ok(())
-}
-
-#[test]
-fn texts_are_accepted_or_refused(rt: HostRuntime) -> Result<(), Fail> {
-    assert!(rt; is_accepted(rt.alloc(), &FREE, b"Kh;")?);
-    assert!(rt; !is_accepted(rt.alloc(), &FREE, b"KaAh;")?);
-    assert!(rt; is_accepted(rt.alloc(), &CONJUGATE, b"baaBRbAABbrBr;")?);
-    assert!(rt; is_accepted_in_three(rt.alloc(), b"Kh;")?);
-    assert!(rt; !is_accepted_in_three(rt.alloc(), b"t;")?);
-    Ok(())
-}
-
-#[test]
-fn texts_and_symbols_by_number(rt: HostRuntime) -> Result<(), Fail> {
-    assert!(rt; is_text_703(rt.alloc(), b"Kh;")?);
-    assert!(rt; digit_comes_back(rt.alloc())?);
-    Ok(())
+fn texts_and_symbols_by_number(rt: HostRuntime) {
+    assert!(rt; is_text_703(rt.alloc(), "Kh;") == Some(true));
+    assert!(rt; digit_comes_back(rt.alloc()) == Some(true));
 }

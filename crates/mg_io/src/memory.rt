@@ -35,7 +35,13 @@ impl MemorySource {
     /// `failing`. Call 2^64 - 1 and all after it have one number.
     pub fn new(_alloc: Global, bytes: Vec<u8>, most: usize, failing: Vec<u64>) -> MemorySource
         requires { 1 ≤ most }
-        ensures { result ≡ record { bytes = bytes.items; most = most; failing = failing.items; calls = 0; faults = 0 } }
+        ensures { result ≡ record {
+          bytes = bytes.items;
+          most = most;
+          failing = failing.items;
+          calls = 0;
+          faults = 0;
+        } }
     {
         MemorySource {
             bytes,
@@ -108,7 +114,13 @@ impl MemorySink {
     /// `failing`. Call 2^64 - 1 and all after it have one number.
     pub fn new(alloc: Global, most: usize, failing: Vec<u64>) -> MemorySink
         requires { 1 ≤ most }
-        ensures { result.store ≡ record { bytes = []; most = most; failing = failing.items; calls = 0; faults = 0 } }
+        ensures { result.store ≡ record {
+          bytes = [];
+          most = most;
+          failing = failing.items;
+          calls = 0;
+          faults = 0;
+        } }
     {
         MemorySink {
             bytes: Vec::new(alloc),
@@ -128,7 +140,8 @@ impl MemorySink {
 
     // Counts a fault.
     fn fault(&mut self) -> Failed
-        ensures store { self.new.store ≡ record self.old.store { faults = raised self.old.store.faults } }
+        ensures store { self.new.store ≡
+            record self.old.store { faults = raised self.old.store.faults } }
         ensures capacity { self.new.capacity ≡ self.old.capacity }
     {
         self.faults = self.faults.saturating_add(1);

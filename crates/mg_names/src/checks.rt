@@ -101,7 +101,8 @@ impl Names {
     pub(crate) fn group(&self, name: Name, found: &mut Found) -> Option<u32>
         ensures causes { Gets (not_a_group (named_of name.entry)
             (lookup self.now name.entry.text.now)) found.old found.new }
-        ensures some { IfSome result (λ place. lookup self.now name.entry.text.now ≡ Some (a_group place)) }
+        ensures some { IfSome result (λ place.
+            lookup self.now name.entry.text.now ≡ Some (a_group place)) }
         ensures none { IfNone result ((place : ℕ) →
             lookup self.now name.entry.text.now ≢ Some (a_group place)) }
     {
@@ -121,7 +122,8 @@ impl Names {
     pub(crate) fn subgroup(&self, name: Name, found: &mut Found) -> Option<Subgroup>
         ensures causes { Gets (not_a_subgroup (named_of name.entry)
             (lookup self.now name.entry.text.now)) found.old found.new }
-        ensures some { IfSome result (λ s. lookup self.now name.entry.text.now ≡ Some (a_subgroup s.group s.words.now)) }
+        ensures some { IfSome result (λ s.
+            lookup self.now name.entry.text.now ≡ Some (a_subgroup s.group s.words.now)) }
         ensures none { IfNone result ((group : ℕ) (words : ListOf (ListOf ℤ)) →
             lookup self.now name.entry.text.now ≢ Some (a_subgroup group words)) }
     {
@@ -141,7 +143,8 @@ impl Names {
     pub(crate) fn mapping(&self, name: Name, found: &mut Found) -> Option<Mapping>
         ensures causes { Gets (not_a_map (named_of name.entry)
             (lookup self.now name.entry.text.now)) found.old found.new }
-        ensures some { IfSome result (λ m. lookup self.now name.entry.text.now ≡ Some (a_map m.source m.target m.map.now)) }
+        ensures some { IfSome result (λ m.
+            lookup self.now name.entry.text.now ≡ Some (a_map m.source m.target m.map.now)) }
         ensures none { IfNone result ((source target : ℕ) (images : ListOf (ListOf ℤ)) →
             lookup self.now name.entry.text.now ≢ Some (a_map source target images)) }
     {
@@ -161,7 +164,8 @@ impl Names {
     pub(crate) fn question(&self, name: Name, found: &mut Found) -> Option<u32>
         ensures causes { Gets (not_a_question (named_of name.entry)
             (lookup self.now name.entry.text.now)) found.old found.new }
-        ensures some { IfSome result (λ place. lookup self.now name.entry.text.now ≡ Some (a_question place)) }
+        ensures some { IfSome result (λ place.
+            lookup self.now name.entry.text.now ≡ Some (a_question place)) }
         ensures none { IfNone result ((place : ℕ) →
             lookup self.now name.entry.text.now ≢ Some (a_question place)) }
     {

@@ -107,7 +107,8 @@ impl Resolver {
         ensures causes { (scope : ScopeOf) → Keeps scope self.now →
             Gets (not_a_question (named_of name.entry) (lookup scope.names name.entry.text.now)
             ++ (too_many_searches scope procedure place (lookup scope.names name.entry.text.now) ++ not_applying_to scope procedure place (lookup scope.names name.entry.text.now))) found.old found.new }
-        ensures some { IfSome result (λ q. lookup self.now.names name.entry.text.now ≡ Some (a_question q)) }
+        ensures some { IfSome result (λ q.
+            lookup self.now.names name.entry.text.now ≡ Some (a_question q)) }
         ensures none { IfNone result ((q : ℕ) →
             lookup self.now.names name.entry.text.now ≢ Some (a_question q)) }
     {
@@ -189,7 +190,8 @@ impl Resolver {
         ensures causes { (scope : ScopeOf) → Keeps scope self.now →
             Gets (not_a_question (named_of name.entry) (lookup scope.names name.entry.text.now)
             ++ not_applying_to scope procedure place (lookup scope.names name.entry.text.now)) found.old found.new }
-        ensures some { IfSome result (λ q. lookup self.now.names name.entry.text.now ≡ Some (a_question q)) }
+        ensures some { IfSome result (λ q.
+            lookup self.now.names name.entry.text.now ≡ Some (a_question q)) }
         ensures none { IfNone result ((q : ℕ) →
             lookup self.now.names name.entry.text.now ≢ Some (a_question q)) }
     {

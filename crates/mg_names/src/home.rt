@@ -70,7 +70,8 @@ impl<'a> Home<'a> {
 
     /// A name that is no generator shows a cause.
     pub(crate) fn check_generator(&self, name: Name, found: &mut Found)
-        ensures { Gets (not_a_letter self.now.names.now self.now.generators.now (named_of name.entry)) found.old found.new }
+        ensures { Gets (not_a_letter self.now.names.now self.now.generators.now (named_of name.entry))
+            found.old found.new }
     {
         if self.generator(name.text).is_none() {
             found.offer(name.place, self.unknown(name.text));
@@ -84,8 +85,11 @@ impl<'a> Home<'a> {
         name: Name,
         found: &mut Found,
     ) -> Result<Word, NoMemory>
-        ensures letters { IfOk result (λ w. w.letters ≡ letter_at (generator_place self.now.generators.now name.entry.text.now)) }
-        ensures causes { Gets (not_a_letter self.now.names.now self.now.generators.now (named_of name.entry)) found.old found.new }
+        ensures letters { IfOk result (λ w. w.letters ≡
+            letter_at (generator_place self.now.generators.now name.entry.text.now)) }
+        ensures causes { Gets
+            (not_a_letter self.now.names.now self.now.generators.now (named_of name.entry))
+            found.old found.new }
     {
         match self.generator(name.text) {
             Some(place) => generator_word(alloc, place),
@@ -118,7 +122,8 @@ impl<'a> Home<'a> {
 
     /// The declared word of the group with this name, which is no generator.
     fn declared(&self, alloc: Global, name: Name, found: &mut Found) -> Result<Word, NoMemory>
-        ensures letters { IfOk result (λ w. w.letters ≡ declared_word self.now.place (lookup self.now.names.now name.entry.text.now)) }
+        ensures letters { IfOk result (λ w. w.letters ≡
+            declared_word self.now.place (lookup self.now.names.now name.entry.text.now)) }
         ensures causes { Gets (no_word self.now.place (named_of name.entry)
             (lookup self.now.names.now name.entry.text.now) None) found.old found.new }
     {

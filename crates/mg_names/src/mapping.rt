@@ -198,7 +198,8 @@ impl<'a> Arrows<'a> {
     /// A generator without an arrow shows a cause.
     #[tactic(auto, using(crate::proofs::Mappings::missing_gets, crate::proofs::Mappings::all_gets))]
     fn check_all(&self, generators: &[Text], close: u32, found: &mut Found)
-        ensures { Gets (missing (texts (map named_of self.now.names)) close generators.now) found.old found.new }
+        ensures { Gets (missing (texts (map named_of self.now.names)) close generators.now)
+            found.old found.new }
     {
         if !has_all(self.names.as_slice(), generators) {
             found.offer(close, Cause::ImageMissing);
@@ -213,7 +214,9 @@ impl<'a> Arrows<'a> {
         close: u32,
         found: &mut Found,
     ) -> Result<(), NoMemory>
-        ensures { OnOk result (Gets (flat_map (not_a_letter source.now.names.now source.now.generators.now) (map named_of self.now.names)
+        ensures { OnOk result (Gets
+            (flat_map (not_a_letter source.now.names.now source.now.generators.now)
+            (map named_of self.now.names)
             ++ (twice (map named_of self.now.names) ++
             missing (texts (map named_of self.now.names)) close source.now.generators.now)) found.old found.new) }
     {

@@ -41,7 +41,8 @@ pub(crate) enum Object {
 impl Object {
     /// The word that it is, if it is one of the group at the place.
     pub(crate) fn word_in(&self, place: u32) -> Option<&Word>
-        ensures letters { IfSome result (λ w. w.now.letters ≡ declared_word place (Some (object_of self.now))) }
+        ensures letters { IfSome result (λ w.
+            w.now.letters ≡ declared_word place (Some (object_of self.now))) }
         ensures none { IfNone result (declared_word place (Some (object_of self.now)) ≡ []) }
         ensures word { IfSome result (λ w. (n : Named) →
             no_word place n (Some (object_of self.now)) None ≡ []) }
@@ -83,7 +84,8 @@ impl Names {
 
     /// What the name stands for.
     pub(crate) fn find(&self, text: &[u8]) -> Option<&Object>
-        ensures found { IfSome result (λ object. lookup self.now text.now ≡ Some (object_of object.now)) }
+        ensures found { IfSome result (λ object.
+            lookup self.now text.now ≡ Some (object_of object.now)) }
         ensures none { IfNone result (lookup self.now text.now ≡ None) }
     {
         self.objects.get(text)

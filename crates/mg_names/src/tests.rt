@@ -1,4 +1,5 @@
-ghost use Rattle.std.specs.Prelude.{◌≡◌, ◌<◌, ◌≤◌, ◌-◌, ◌^◌, [], length, IfSome};
+//! Words and names, read in a group with the generators a and b in which u is the name of a word.
+ghost use Rattle.std.specs.Prelude.{◌≡◌, ◌≤◌, length, IfSome};
 ghost use Rattle.mg_names.specs.Sign.{IsReadable};
 
 use super::*;
@@ -8,50 +9,31 @@ use crate::least::{Fault, Found};
 use crate::scope::{Names, Object};
 use crate::skipping::skip_word;
 use crate::words::product;
+use mg_fixtures::{is_word, part, word};
 use mg_lex::{Cause, Mark, Text, tokens};
 use mg_script::ScriptLine;
 use mg_terms::lexemes_of;
-use mg_words::{Letter, Word};
+use mg_words::Word;
 use std::alloc::Global;
 use std::test::*;
-
-const A: Letter = Letter {
-    generator: 1,
-    inverse: false,
-};
-
-const A_BACK: Letter = Letter {
-    generator: 1,
-    inverse: true,
-};
-
-const B: Letter = Letter {
-    generator: 2,
-    inverse: false,
-};
-
-const B_BACK: Letter = Letter {
-    generator: 2,
-    inverse: true,
-};
 
 fn text_of(alloc: Global, bytes: &[u8]) -> Option<Text>
     ensures { IfSome result (λ text. text ≡ bytes.now) }
 {
     let mut text = Text::new(alloc);
-    for byte in bytes {
-        let Ok(()) = text.push(*byte) else {
-            return None;
-        };
+    match text.extend_from_slice(bytes) {
+        Ok(()) => Some(text),
+        Err(_) => None,
     }
-    Some(text)
 }
 
-/// The line with its tokens and lexemes.
+/// The line, which isn't too long, with its tokens and lexemes.
 fn line_of(alloc: Global, text: &[u8]) -> Option<ScriptLine>
-    requires { length text.now < 2 ^ 32 - 1 }
     ensures { IfSome result IsReadable }
 {
+    if text.len() > 1_000 {
+        return None;
+    }
     let bytes = text_of(alloc, text)?;
     let Ok(tokens) = tokens(alloc, text, 1) else {
         return None;
@@ -83,9 +65,7 @@ fn generators(alloc: Global) -> Option<mg_lex::Names>
 
 /// The names of a table in which u stands for a word of a group.
 fn names_with_word(alloc: Global, group: u32) -> Option<Names> {
-    let Ok(word) = Word::from_letters(alloc, &[B, A]) else {
-        return None;
-    };
+    let word = word(alloc, "ba");
     let mut names = Names::new(alloc);
     match names.declare(alloc, b"u", Object::Word { group, word }) {
         Ok(()) => Some(names),
@@ -93,18 +73,9 @@ fn names_with_word(alloc: Global, group: u32) -> Option<Names> {
     }
 }
 
-fn is_word_of(alloc: Global, word: &Word, letters: &[Letter]) -> bool {
-    match Word::from_letters(alloc, letters) {
-        Ok(other) => *word == other,
-        Err(_) => false,
-    }
-}
-
 /// What a word at the front of the text comes to, and the least cause that its names show.
-fn reading(alloc: Global, text: &[u8]) -> Option<(Word, Option<Fault>)>
-    requires { length text.now < 2 ^ 32 - 1 }
-{
-    let line = line_of(alloc, text)?;
+fn reading(alloc: Global, text: &str) -> Option<(Word, Option<Fault>)> {
+    let line = line_of(alloc, text.as_bytes())?;
     let generators = generators(alloc)?;
     let names = names_with_word(alloc, 0)?;
     let home = Home {
@@ -119,46 +90,41 @@ fn reading(alloc: Global, text: &[u8]) -> Option<(Word, Option<Fault>)>
     }
 }
 
-fn is_written(alloc: Global, text: &[u8], letters: &[Letter]) -> bool
-    requires { length text.now < 2 ^ 32 - 1 }
-{
-    match reading(alloc, text) {
-        Some((word, None)) => is_word_of(alloc, &word, letters),
+/// Whether the word before the bar is written out as the one behind it.
+fn is_written(alloc: Global, line: &str) -> bool {
+    match reading(alloc, part(line, 0)) {
+        Some((word, None)) => is_word(alloc, &word, part(line, 1)),
         _ => false,
     }
 }
 
-fn shows(alloc: Global, text: &[u8], place: u32, cause: Cause) -> bool
-    requires { length text.now < 2 ^ 32 - 1 }
-{
+fn shows(alloc: Global, text: &str, place: u32, cause: Cause) -> bool {
     match reading(alloc, text) {
         Some((_, Some(fault))) => fault == Fault { place, cause },
         _ => false,
     }
 }
 
-#[test]
-fn words_are_written_out(rt: HostRuntime) {
-    let alloc = rt.alloc();
-    assert!(rt; is_written(alloc, b"[a,b]", &[A_BACK, B_BACK, A, B]));
-    assert!(rt; is_written(alloc, b"a*(b a)*b", &[A, B, A, B]));
-    assert!(rt; is_written(alloc, b"(a b)^2", &[A, B, A, B]));
-}
+const WRITTEN: &str = "[a,b] | ABab
+a*(b a)*b | abab
+(a b)^2 | abab
+(a b)^-1 1 | BA
+b^0 a 1^4611686018427387904 = b | a
+[a,1]^3 | AaAaAa";
 
 #[test]
-fn powers_are_written_out(rt: HostRuntime) {
-    let alloc = rt.alloc();
-    assert!(rt; is_written(alloc, b"(a b)^-1 1", &[B_BACK, A_BACK]));
-    assert!(rt; is_written(alloc, b"b^0 a 1^4611686018427387904 = b", &[A]));
-    assert!(rt; is_written(alloc, b"[a,1]^3", &[A_BACK, A, A_BACK, A, A_BACK, A]));
+fn words_are_written_out(rt: HostRuntime) {
+    for line in WRITTEN.lines() {
+        assert!(rt; is_written(rt.alloc(), line), "{line}");
+    }
 }
 
 #[test]
 fn names_in_words_are_generators(rt: HostRuntime) {
     let alloc = rt.alloc();
-    assert!(rt; shows(alloc, b"(u)", 1, Cause::WrongKind));
-    assert!(rt; shows(alloc, b"a [b, d] u c^0", 6, Cause::UnknownGenerator));
-    assert!(rt; shows(alloc, b"c^0", 0, Cause::UnknownGenerator));
+    assert!(rt; shows(alloc, "(u)", 1, Cause::WrongKind));
+    assert!(rt; shows(alloc, "a [b, d] u c^0", 6, Cause::UnknownGenerator));
+    assert!(rt; shows(alloc, "c^0", 0, Cause::UnknownGenerator));
 }
 
 /// What the name u alone comes to where it stands for a word of a group, and in which group it is read.
@@ -184,29 +150,30 @@ fn alone(alloc: Global, group: u32, place: u32) -> Option<(Word, Option<Fault>)>
     }
 }
 
+/// Whether the name comes to the word that is written so.
+fn is_alone(alloc: Global, group: u32, place: u32, text: &str) -> bool {
+    match alone(alloc, group, place) {
+        Some((word, None)) => is_word(alloc, &word, text),
+        _ => false,
+    }
+}
+
+/// Whether the name, at place 9, has the wrong kind there.
+fn is_of_wrong_kind(alloc: Global, group: u32, place: u32) -> bool {
+    match alone(alloc, group, place) {
+        Some((_, Some(fault))) => fault.place == 9 && fault.cause == Cause::WrongKind,
+        _ => false,
+    }
+}
+
 #[test]
 fn a_name_alone_is_a_declared_word(rt: HostRuntime) {
-    let alloc = rt.alloc();
-    let is_word = match alone(alloc, 3, 3) {
-        Some((word, None)) => is_word_of(alloc, &word, &[B, A]),
-        _ => false,
-    };
-    assert!(rt; is_word);
-    let is_refused = match alone(alloc, 3, 4) {
-        Some((_, Some(fault))) => fault
-            == Fault {
-                place: 9,
-                cause: Cause::WrongKind,
-            },
-        _ => false,
-    };
-    assert!(rt; is_refused);
+    assert!(rt; is_alone(rt.alloc(), 3, 3, "ba"));
+    assert!(rt; is_of_wrong_kind(rt.alloc(), 3, 4));
 }
 
 /// Whether the mark stands behind the word at the front of the text.
-fn stands_behind(alloc: Global, text: &[u8], mark: Mark) -> bool
-    requires { length text.now < 2 ^ 32 - 1 }
-{
+fn stands_behind(alloc: Global, text: &[u8], mark: Mark) -> bool {
     match line_of(alloc, text) {
         Some(line) => {
             let mut cursor = Cursor::of(&line);

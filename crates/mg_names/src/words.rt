@@ -149,7 +149,8 @@ fn read_exponent(cursor: &mut Cursor) -> Exponent
 
 /// The power of a word.
 fn raised(alloc: Global, root: Word, exponent: Exponent) -> Result<Word, WordFault>
-    ensures power { IfOk result (λ v. v.letters ≡ power_of (signed exponent.negative exponent.size) root.letters) }
+    ensures power { IfOk result (λ v.
+        v.letters ≡ power_of (signed exponent.negative exponent.size) root.letters) }
     ensures fits { length root.letters * exponent.size ≤ MOST_POWER_LETTERS → IsNotTooLong result }
 {
     if root.letters().is_empty() {

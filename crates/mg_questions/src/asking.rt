@@ -33,7 +33,8 @@ pub fn ask_of(alloc: Global, question: &Question) -> Result<Ask, AskFault>
     ensures too_many { (count : ℕ) →
         (result ≡ Err (AskFault.TooManyGoals count)) ↔ AreTooMany (goals_of question.now) count }
     ensures too_long { (goal letters : ℕ) →
-        (result ≡ Err (AskFault.GoalTooLong goal letters)) ↔ IsFirstTooLong (goals_of question.now) goal letters }
+        (result ≡ Err (AskFault.GoalTooLong goal letters)) ↔
+        IsFirstTooLong (goals_of question.now) goal letters }
 {
     if let Some(fault) = refusal(question) {
         return Err(fault);

@@ -21,7 +21,8 @@ pub fn asks_keep_the_meaning()
 /// Questions compare equal exactly where they have the same content: the same kind, groups, maps and
 /// letters of words. The spare room of words doesn't count.
 pub fn equal_questions_are_one()
-    ensures { (a b : QuestionOf) → (⟦<Question as Ord>⟧.cmp a b ≡ Equal) ↔ (content_of a ≡ content_of b) }
+    ensures { (a b : QuestionOf) →
+        (⟦<Question as Ord>⟧.cmp a b ≡ Equal) ↔ (content_of a ≡ content_of b) }
 {}
 
 /// The limits of questions by their values.

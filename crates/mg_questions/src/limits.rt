@@ -51,7 +51,8 @@ impl From<NoMemory> for AskFault {
 // Why a question has no Ask, memory aside. It takes no memory.
 pub(crate) fn refusal(question: &Question) -> Option<AskFault>
     requires { IsFit question.now }
-    ensures { MatchOption result (AreAllowed (goals_of question.now)) (λ fault. IsRefused (goals_of question.now) fault) }
+    ensures { MatchOption result (AreAllowed (goals_of question.now))
+        (λ fault. IsRefused (goals_of question.now) fault) }
 {
     let generators = asked_group(question).generators();
     match question {
@@ -67,7 +68,8 @@ fn too_many(generators: u32, words: usize) -> Option<AskFault>
     requires generators { generators ≤ MOST_GENERATORS }
     requires words { words ≤ MOST_SUBGROUP_WORDS }
     ensures { MatchOption result (2 * words * generators ≤ MOST_GOALS)
-        (λ fault. (fault ≡ AskFault.TooManyGoals (2 * words * generators)) × (MOST_GOALS < 2 * words * generators)) }
+        (λ fault. (fault ≡ AskFault.TooManyGoals (2 * words * generators)) ×
+        (MOST_GOALS < 2 * words * generators)) }
 {
     let count = 2 * words as u64 * u64::from(generators);
     if count > MOST_GOALS as u64 {

@@ -47,7 +47,8 @@ pub(crate) fn commutators(alloc: Global, us: &[Word]) -> Result<Words, NoMemory>
 
 // The commutators of one word with others.
 pub(crate) fn commutators_with(alloc: Global, u: &Word, vs: &[Word]) -> Result<Words, NoMemory>
-    ensures { IfOk result (λ words. words ≡ map_of (commutator_of u.now.letters) (letters_of vs.now)) }
+    ensures { IfOk result (λ words.
+        words ≡ map_of (commutator_of u.now.letters) (letters_of vs.now)) }
 {
     let mut words = Words::new(alloc);
     push_commutators(alloc, &mut words, u, vs)?;
@@ -56,7 +57,8 @@ pub(crate) fn commutators_with(alloc: Global, u: &Word, vs: &[Word]) -> Result<W
 
 // Appends the commutators of one word with others.
 fn push_commutators(alloc: Global, words: &mut Words, u: &Word, vs: &[Word]) -> Result<(), NoMemory>
-    ensures { OnOk result (words.new ≡ words.old ++ map_of (commutator_of u.now.letters) (letters_of vs.now)) }
+    ensures { OnOk result (words.new ≡
+        words.old ++ map_of (commutator_of u.now.letters) (letters_of vs.now)) }
 {
     for v in vs {
         words.push(commutator(alloc, u, v)?)?;
@@ -77,7 +79,8 @@ pub(crate) fn conjugates(alloc: Global, xs: &[Word], hs: &[Word]) -> Result<Word
 
 // Appends the conjugates of the words by `x` and by its inverse.
 fn push_conjugates(alloc: Global, words: &mut Words, x: &Word, hs: &[Word]) -> Result<(), NoMemory>
-    ensures { OnOk result (words.new ≡ words.old ++ conjugates_by x.now.letters (letters_of hs.now)) }
+    ensures { OnOk result (words.new ≡
+        words.old ++ conjugates_by x.now.letters (letters_of hs.now)) }
 {
     let back = inverse(alloc, x)?;
     for h in hs {
@@ -109,7 +112,8 @@ pub(crate) fn reduced(alloc: Global, words: &[Word]) -> Result<Words, NoMemory>
 // The images of the words, freely reduced.
 pub(crate) fn images(alloc: Global, map: &GenMap, words: &[Word]) -> Result<Words, NoMemory>
     requires { AllByRecursion (IsOver (length map.now)) (letters_of words.now) }
-    ensures { IfOk result (λ goals. AllZip IsFormOf (map_of (image_of map.now) (letters_of words.now)) goals) }
+    ensures { IfOk result
+        (AllZip IsFormOf (map_of (image_of map.now) (letters_of words.now))) }
 {
     let mut goals = Words::new(alloc);
     for word in words {

@@ -37,7 +37,8 @@ pub(crate) fn read_line(
     requires short { length line.now < 2 ^ 32 - 1 }
     requires within { AreWithinLimits counts }
     ensures skipped { IfOk result (λ kept. IfNone kept (IsSkipped line.now)) }
-    ensures kept { IfOk result (λ kept. IfSome kept (λ k. IsKept counts number line.now k.line k.counts)) }
+    ensures kept { IfOk result (λ kept. IfSome kept (λ k.
+        IsKept counts number line.now k.line k.counts)) }
     ensures refused { (r : Refused) → result ≡ Err (ParseRefused.Refused r) →
         IsLineRefusal counts line.now number r }
 {

@@ -83,7 +83,8 @@ pub(crate) fn mark(mark: Mark) -> Sign
 
 /// A keyword.
 pub(crate) fn keyword(keyword: Keyword) -> Sign
-    ensures { result ≡ record { counted = None; expected = Expected.This (Lexeme.Keyword keyword) } }
+    ensures { result ≡
+        record { counted = None; expected = Expected.This (Lexeme.Keyword keyword) } }
 {
     Sign {
         counted: None,

@@ -1,8 +1,10 @@
 use super::*;
-use mg_lex::{Cause, Keyword, Mark, Refused, Text};
+use mg_fixtures::part;
+use mg_lex::{Cause, Refused, Text, tokens};
 use mg_lists::NoMemory;
-use mg_terms::Lexeme;
+use mg_terms::lexemes_of;
 use std::alloc::Global;
+use std::str::SplitWhitespace;
 use std::test::*;
 
 /// Whether these are the three lines of the bytes.
@@ -52,228 +54,155 @@ const NOTHING: Counts = Counts {
     letters: 0,
 };
 
-const NAME: Lexeme = Lexeme::Name;
-
-const COLON: Lexeme = Lexeme::Mark(Mark::Colon);
-
-const EQUALS: Lexeme = Lexeme::Mark(Mark::Equals);
-
-const IN: Lexeme = Lexeme::Keyword(Keyword::In);
-
-const ASK: Lexeme = Lexeme::Keyword(Keyword::Ask);
-
-/// Whether the lexemes are a statement.
-fn is_read(lexemes: &[Lexeme]) -> bool {
-    read_statement(lexemes, NOTHING).is_ok()
+/// What is read of the lexemes of a line, where so much has been counted before.
+fn reading(alloc: Global, line: &[u8], counts: Counts) -> Option<Result<Counts, StatementFault>> {
+    if line.len() > 10_000 {
+        return None;
+    }
+    let Ok(tokens) = tokens(alloc, line, 1) else {
+        return None;
+    };
+    let Ok(lexemes) = lexemes_of(alloc, line, tokens.as_slice()) else {
+        return None;
+    };
+    Some(read_statement(lexemes.as_slice(), counts))
 }
 
-/// Whether the lexemes are refused at the place.
-fn is_refused(lexemes: &[Lexeme], place: usize, cause: Cause) -> bool {
-    match read_statement(lexemes, NOTHING) {
-        Ok(_) => false,
-        Err(fault) => fault == StatementFault { place, cause },
+/// Whether the line is a statement behind what has been counted, after which so much has been counted.
+fn counts_to(alloc: Global, line: &str, before: Counts, after: Counts) -> bool {
+    match reading(alloc, line.as_bytes(), before) {
+        Some(Ok(counts)) => counts == after,
+        _ => false,
     }
 }
 
-fn keyword(keyword: Keyword) -> Lexeme {
-    Lexeme::Keyword(keyword)
+/// Whether the line is refused at the lexeme with so many before it.
+fn is_refused(alloc: Global, line: &[u8], before: Counts, place: usize, cause: Cause) -> bool {
+    match reading(alloc, line, before) {
+        Some(Err(fault)) => fault == StatementFault { place, cause },
+        _ => false,
+    }
 }
 
-#[test]
-fn questions_are_read(rt: HostRuntime) {
-    assert!(rt; is_read(&[ASK, NAME, COLON, NAME, EQUALS, NAME, NAME, IN, NAME]));
-    assert!(rt; is_read(&[ASK, NAME, COLON, NAME, IN, NAME]));
-    assert!(rt; is_read(&[ASK, NAME, COLON, NAME, IN, keyword(Keyword::Kernel), NAME]));
-    assert!(rt; is_read(&[ASK, NAME, COLON, NAME, keyword(Keyword::Central), IN, NAME]));
-    assert!(rt; is_read(&[ASK, NAME, COLON, NAME, keyword(Keyword::Trivial)]));
-    assert!(rt; is_read(&[ASK, NAME, COLON, NAME, keyword(Keyword::Onto)]));
+/// Whether the line is a statement behind what has been counted, or None where it has a bad token.
+fn is_read(alloc: Global, line: &str, before: Counts) -> Option<bool> {
+    Some(reading(alloc, line.as_bytes(), before)?.is_ok())
 }
 
-#[test]
-fn only_names_have_properties(rt: HostRuntime) {
-    let trivial = keyword(Keyword::Trivial);
-    assert!(rt;
-        is_refused(
-            &[ASK, NAME, COLON, NAME, NAME, trivial],
-            5,
-            Cause::Unexpected
-        )
-    );
-    assert!(rt;
-        is_refused(
-            &[ASK, NAME, COLON, Lexeme::Number(1), trivial],
-            4,
-            Cause::Unexpected
-        )
-    );
-}
+const STATEMENTS: &str = "ask q : a = b c in G
+ask q : a in H
+ask q : a in kernel f
+ask q : a central in G
+ask q : G trivial
+ask q : f onto
+run
+run 5
+fund 1
+grant q act 1
+cancel q recall
+report
+report facts
+report log
+group G = < >
+group G = < | >
+group G = < a, b | c >
+subgroup H of G = < >
+subgroup H of G = < a a, 1 >
+map f : G -> H = [ a -> b ]";
 
 #[test]
-fn commands_are_read(rt: HostRuntime) {
-    let run = keyword(Keyword::Run);
-    assert!(rt; is_read(&[run]));
-    assert!(rt; is_read(&[run, Lexeme::Number(5)]));
-    assert!(rt; is_read(&[keyword(Keyword::Fund), Lexeme::Number(1)]));
-    assert!(rt;
-        is_read(&[
-            keyword(Keyword::Grant),
-            NAME,
-            keyword(Keyword::Act),
-            Lexeme::Number(1)
-        ])
-    );
-    assert!(rt; is_read(&[keyword(Keyword::Cancel), NAME, keyword(Keyword::Recall)]));
-    assert!(rt; is_refused(&[keyword(Keyword::Fund)], 1, Cause::Unexpected));
-    assert!(rt;
-        is_refused(
-            &[run, Lexeme::Number(5), Lexeme::Number(5)],
-            2,
-            Cause::Unexpected
-        )
-    );
+fn statements_are_read(rt: HostRuntime) {
+    for line in STATEMENTS.lines() {
+        assert!(rt; is_read(rt.alloc(), line, NOTHING) == Some(true), "{line}");
+    }
+}
+
+/// Whether a lexeme of the line is unexpected. How many stand before it is written before the line.
+fn is_unexpected(alloc: Global, text: &str) -> Option<bool> {
+    let (place, line) = text.split_once(' ')?;
+    let place = place.parse::<usize>().ok()?;
+    Some(is_refused(alloc, line.as_bytes(), NOTHING, place, Cause::Unexpected))
+}
+
+const UNEXPECTED: &str = "5 ask q : a b trivial
+4 ask q : 1 trivial
+1 fund
+2 run 5 5
+4 group G = <
+6 group G = < a, >
+8 group G = < a | b = >
+10 map f : G -> H = [ a -> ]";
+
+#[test]
+fn statements_are_refused(rt: HostRuntime) {
+    for text in UNEXPECTED.lines() {
+        assert!(rt; is_unexpected(rt.alloc(), text) == Some(true), "{text}");
+    }
+    let long = b"group G = < a | a^10000 = a >";
+    assert!(rt; is_refused(rt.alloc(), long, NOTHING, 10, Cause::WordTooLong));
+}
+
+/// So many words, questions, subgroups and maps as the text says.
+fn declared(text: &str) -> Counts {
+    let mut numbers = text.split_whitespace();
+    Counts {
+        words: next_number(&mut numbers),
+        questions: next_number(&mut numbers),
+        subgroups: next_number(&mut numbers),
+        maps: next_number(&mut numbers),
+        ..NOTHING
+    }
+}
+
+fn next_number(numbers: &mut SplitWhitespace<'_>) -> u32 {
+    match numbers.next() {
+        Some(number) => number.parse::<u32>().unwrap_or(0),
+        None => 0,
+    }
+}
+
+/// Whether the line is a statement behind the declarations first written, and none behind the others.
+fn ends_between(alloc: Global, text: &str) -> bool {
+    let line = part(text, 2);
+    is_read(alloc, line, declared(part(text, 0))) == Some(true)
+        && is_read(alloc, line, declared(part(text, 1))) == Some(false)
+}
+
+const LIMITS: &str = "1023 1024 256 256 | 1024 0 0 0 | word w in G = a
+1024 1023 256 256 | 0 1024 0 0 | ask q : a in H
+1024 1024 255 256 | 0 0 256 0 | subgroup H of G = < >
+1024 1024 256 255 | 0 0 0 256 | map f : G -> H = [ ]";
+
+#[test]
+fn declarations_have_limits(rt: HostRuntime) {
+    for text in LIMITS.lines() {
+        assert!(rt; ends_between(rt.alloc(), text), "{text}");
+    }
 }
 
 #[test]
 fn reports_are_counted(rt: HostRuntime) {
-    let report = keyword(Keyword::Report);
-    assert!(rt; is_read(&[report]));
-    assert!(rt; is_read(&[report, keyword(Keyword::Facts)]));
-    assert!(rt; is_read(&[report, keyword(Keyword::Log)]));
     let many = Counts {
         reports: 64,
         ..NOTHING
     };
-    let fault = StatementFault {
-        place: 0,
-        cause: Cause::TooMany,
-    };
-    assert!(rt; read_statement(&[report], many) == Err(fault));
+    assert!(rt; is_refused(rt.alloc(), b"report", many, 0, Cause::TooMany));
 }
 
 #[test]
 fn words_are_counted(rt: HostRuntime) {
-    let word = [keyword(Keyword::Word), NAME, IN, NAME, EQUALS, NAME, NAME];
     let after = Counts {
         words: 1,
         letters: 2,
         ..NOTHING
     };
-    assert!(rt; read_statement(&word, NOTHING) == Ok(after));
+    assert!(rt; counts_to(rt.alloc(), "word w in G = a a", NOTHING, after));
     let full = Counts {
         letters: 999_999,
         ..NOTHING
     };
-    let fault = StatementFault {
-        place: 6,
-        cause: Cause::TooMany,
-    };
-    assert!(rt; read_statement(&word, full) == Err(fault));
+    assert!(rt; is_refused(rt.alloc(), b"word w in G = a a", full, 6, Cause::TooMany));
 }
-
-/// Whether the lexemes are a statement where so much has been counted before.
-fn is_read_behind(counts: Counts, lexemes: &[Lexeme]) -> bool {
-    read_statement(lexemes, counts).is_ok()
-}
-
-/// So many words, questions, subgroups and maps.
-fn declared(words: u32, questions: u32, subgroups: u32, maps: u32) -> Counts {
-    Counts {
-        words,
-        questions,
-        subgroups,
-        maps,
-        ..NOTHING
-    }
-}
-
-#[test]
-fn at_most_1_024_words_are_declared(rt: HostRuntime) {
-    let word = [keyword(Keyword::Word), NAME, IN, NAME, EQUALS, NAME];
-    assert!(rt; is_read_behind(declared(1_023, 1_024, 256, 256), &word));
-    assert!(rt; !is_read_behind(declared(1_024, 0, 0, 0), &word));
-}
-
-#[test]
-fn at_most_1_024_questions_are_asked(rt: HostRuntime) {
-    let question = [ASK, NAME, COLON, NAME, IN, NAME];
-    assert!(rt; is_read_behind(declared(1_024, 1_023, 256, 256), &question));
-    assert!(rt; !is_read_behind(declared(0, 1_024, 0, 0), &question));
-}
-
-#[test]
-fn at_most_256_subgroups_are_declared(rt: HostRuntime) {
-    let subgroup = keyword(Keyword::Subgroup);
-    let of = keyword(Keyword::Of);
-    let declaration = [subgroup, NAME, of, NAME, EQUALS, LESS, GREATER];
-    assert!(rt; is_read_behind(declared(1_024, 1_024, 255, 256), &declaration));
-    assert!(rt; !is_read_behind(declared(0, 0, 256, 0), &declaration));
-}
-
-#[test]
-fn at_most_256_maps_are_declared(rt: HostRuntime) {
-    let arrow = Lexeme::Mark(Mark::Arrow);
-    let open = Lexeme::Mark(Mark::OpenSquare);
-    let close = Lexeme::Mark(Mark::CloseSquare);
-    let map = [
-        keyword(Keyword::Map),
-        NAME,
-        COLON,
-        NAME,
-        arrow,
-        NAME,
-        EQUALS,
-        open,
-        close,
-    ];
-    assert!(rt; is_read_behind(declared(1_024, 1_024, 256, 255), &map));
-    assert!(rt; !is_read_behind(declared(0, 0, 0, 256), &map));
-}
-
-const GROUP: Lexeme = Lexeme::Keyword(Keyword::Group);
-
-const LESS: Lexeme = Lexeme::Mark(Mark::Less);
-
-const GREATER: Lexeme = Lexeme::Mark(Mark::Greater);
-
-const COMMA: Lexeme = Lexeme::Mark(Mark::Comma);
-
-const BAR: Lexeme = Lexeme::Mark(Mark::Bar);
-
-#[test]
-fn groups_are_read(rt: HostRuntime) {
-    assert!(rt; is_read(&[GROUP, NAME, EQUALS, LESS, GREATER]));
-    assert!(rt; is_read(&[GROUP, NAME, EQUALS, LESS, BAR, GREATER]));
-    assert!(rt;
-        is_read(&[
-            GROUP, NAME, EQUALS, LESS, NAME, COMMA, NAME, BAR, NAME, GREATER
-        ])
-    );
-}
-
-#[test]
-fn groups_must_end(rt: HostRuntime) {
-    assert!(rt; is_refused(&[GROUP, NAME, EQUALS, LESS], 4, Cause::Unexpected));
-    assert!(rt;
-        is_refused(
-            &[GROUP, NAME, EQUALS, LESS, NAME, COMMA, GREATER],
-            6,
-            Cause::Unexpected
-        )
-    );
-    assert!(rt;
-        is_refused(
-            &[GROUP, NAME, EQUALS, LESS, NAME, BAR, NAME, EQUALS, GREATER],
-            8,
-            Cause::Unexpected
-        )
-    );
-}
-
-/// `group G = < a, b | a = b a, b >`
-const TWO_RELATORS: [Lexeme; 15] = [
-    GROUP, NAME, EQUALS, LESS, NAME, COMMA, NAME, BAR, NAME, EQUALS, NAME, NAME, COMMA, NAME,
-    GREATER,
-];
 
 #[test]
 fn groups_are_counted(rt: HostRuntime) {
@@ -284,107 +213,29 @@ fn groups_are_counted(rt: HostRuntime) {
         letters: 4,
         ..NOTHING
     };
-    assert!(rt; read_statement(&TWO_RELATORS, NOTHING) == Ok(after));
+    let line = "group G = < a, b | a = b a, b >";
+    assert!(rt; counts_to(rt.alloc(), line, NOTHING, after));
     let full = Counts {
         relators: 255,
         ..NOTHING
     };
-    let fault = StatementFault {
-        place: 13,
-        cause: Cause::TooMany,
-    };
-    assert!(rt; read_statement(&TWO_RELATORS, full) == Err(fault));
+    assert!(rt; is_refused(rt.alloc(), line.as_bytes(), full, 13, Cause::TooMany));
 }
 
 #[test]
-fn generators_have_a_limit(rt: HostRuntime) {
-    let mut lexemes = [COMMA; 134];
-    lexemes[0] = GROUP;
-    lexemes[1] = NAME;
-    lexemes[2] = EQUALS;
-    lexemes[3] = LESS;
-    for count in 0..65 {
-        lexemes[4 + 2 * count] = NAME;
-    }
-    lexemes[133] = GREATER;
-    assert!(rt; is_refused(&lexemes, 132, Cause::TooMany));
-}
-
-/// `group G = < a | a^10000 = a >`
-const LONG_EQUATION: [Lexeme; 12] = [
-    GROUP,
-    NAME,
-    EQUALS,
-    LESS,
-    NAME,
-    BAR,
-    NAME,
-    Lexeme::Mark(Mark::Caret),
-    Lexeme::Number(10_000),
-    EQUALS,
-    NAME,
-    GREATER,
-];
-
-#[test]
-fn equations_have_a_limit(rt: HostRuntime) {
-    assert!(rt; is_refused(&LONG_EQUATION, 10, Cause::WordTooLong));
-}
-
-#[test]
-fn subgroups_are_read(rt: HostRuntime) {
-    let subgroup = keyword(Keyword::Subgroup);
-    let of = keyword(Keyword::Of);
-    assert!(rt; is_read(&[subgroup, NAME, of, NAME, EQUALS, LESS, GREATER]));
-    assert!(rt;
-        is_read(&[
-            subgroup,
-            NAME,
-            of,
-            NAME,
-            EQUALS,
-            LESS,
-            NAME,
-            NAME,
-            COMMA,
-            Lexeme::Number(1),
-            GREATER
-        ])
-    );
-}
-
-#[test]
-fn maps_are_read(rt: HostRuntime) {
-    let map = keyword(Keyword::Map);
-    let arrow = Lexeme::Mark(Mark::Arrow);
-    let open = Lexeme::Mark(Mark::OpenSquare);
-    let close = Lexeme::Mark(Mark::CloseSquare);
-    assert!(rt;
-        is_read(&[
-            map, NAME, COLON, NAME, arrow, NAME, EQUALS, open, NAME, arrow, NAME, close
-        ])
-    );
-    assert!(rt;
-        is_refused(
-            &[
-                map, NAME, COLON, NAME, arrow, NAME, EQUALS, open, NAME, arrow, close
-            ],
-            10,
-            Cause::Unexpected
-        )
-    );
+fn generators_have_a_limit(rt: HostRuntime) -> Result<(), Fail> {
+    let mut line = repeated(rt.alloc(), b"group G = < a", b", a", 64)?;
+    line.extend_from_slice(b" >")?;
+    assert!(rt; is_refused(rt.alloc(), line.as_slice(), NOTHING, 132, Cause::TooMany));
+    Ok(())
 }
 
 /// The bytes, and then so many times the piece.
 fn repeated(alloc: Global, bytes: &[u8], piece: &[u8], count: usize) -> Result<Text, NoMemory> {
     let mut text = Text::new(alloc);
-    for byte in bytes {
-        text.push(*byte)?;
-    }
+    text.extend_from_slice(bytes)?;
     for _ in 0..count {
-        for byte in piece {
-            text.push(*byte)?;
-        }
+        text.extend_from_slice(piece)?;
     }
     Ok(text)
 }
@@ -502,9 +353,7 @@ fn groups_have_a_limit(rt: HostRuntime) -> Result<(), Fail> {
 /// A group, a hundred words of 10,000 letters, and then the line.
 fn behind_all_letters(alloc: Global, line: &[u8]) -> Result<Text, NoMemory> {
     let mut text = repeated(alloc, GROUP_LINE, b"word w in G = a^10000\n", 100)?;
-    for byte in line {
-        text.push(*byte)?;
-    }
+    text.extend_from_slice(line)?;
     Ok(text)
 }
 
