@@ -1,13 +1,8 @@
 -- Chains of rewritings: they join, are kept by products, and lower ranks.
-use Rattle.std.proofs.Common.{◌≡◌, ◌≢◌, ℕ, ◌<◌, ◌≤◌, ℤ, List, [], ◌∷◌, ◌++◌, length, refl, sym, ap, subst, ◌∙◌, inl, inr, append_assoc, arith}
-use Rattle.std.specs.List.{AllByRecursion}
-use Rattle.std.specs.Ordering.{ordering_then}
-use Rattle.std.specs.declared.cmp.Ordering.TheVariants.{Less, Equal, Greater}
-use Rattle.std.proofs.lemmas.List.{append-nil, length-append}
-use Rattle.mg_words.specs.Orders.{letters_cmp}
-use Rattle.mg_rules.specs.Rule.{Rule, Occurrence, Rewrites, Leads, Descends, HaveCommon, IsNormal, rule_numbered}
-use Rattle.mg_rules.specs.Shortlex.{IsSmaller, Decreases, AllDecrease}
-use Rattle.mg_rules.proofs.Parts.{all_numbered, some_length}
+use Rattle.std.proofs.Common.{◌≡◌, ◌≢◌, ℤ, List, [], ◌∷◌, ◌++◌, length, refl, sym, ap, subst, ◌∙◌, inl, inr, append_assoc, arith}
+use Rattle.std.specs.declared.cmp.Ordering.TheVariants.{Less, Equal}
+use Rattle.mg_rules.specs.Rule.{Rule, Rewrites, Leads, Descends, HaveCommon, IsNormal}
+use Rattle.mg_rules.specs.Shortlex.{IsSmaller, Decreases}
 
 pub descends_itself : (rules : List Rule) (u : List ℤ) → Descends rules u u
 descends_itself rules u = ([], refl)

@@ -1,7 +1,6 @@
 -- Newman's lemma: where the results of all overlaps and inclusions have common descendants, a word has one normal
 -- descendant.
-use Rattle.std.proofs.Common.{◌≡◌, ◌≢◌, ℕ, zero, suc, ◌+◌, ◌<◌, ◌≤◌, ◌⊎◌, ℤ, List, [], ◌∷◌, ◌++◌, length, refl, sym, ap, subst, ◌∙◌, inl, inr, append_assoc, arith}
-use Rattle.std.specs.Prelude.{Some}
+use Rattle.std.proofs.Common.{◌≡◌, ◌≢◌, ℕ, zero, suc, ◌+◌, ◌<◌, ◌⊎◌, ℤ, List, [], ◌∷◌, ◌++◌, length, refl, sym, ap, subst, ◌∙◌, inl, inr, append_assoc, arith}
 use Rattle.std.specs.List.{AllByRecursion}
 use Rattle.std.proofs.lemmas.Bool.{cases_order}
 use Rattle.std.proofs.lemmas.Option.{same_Some}
@@ -9,7 +8,7 @@ use Rattle.std.proofs.lemmas.List.{append-nil, length-append}
 use Rattle.mg_rules.specs.Rule.{Rule, rule_numbered, Occurrence, Rewrites, Leads, Descends, HaveCommon, IsNormal}
 use Rattle.mg_rules.specs.Shortlex.{AllDecrease}
 use Rattle.mg_rules.specs.Meeting.{Overlaps, Includes, AllJoin}
-use Rattle.mg_rules.proofs.Parts.{cuts, CutFirst, CutLast, no_length, some_length, from_length}
+use Rattle.mg_rules.proofs.Parts.{cuts, no_length, some_length}
 use Rattle.mg_rules.proofs.Ranks.{rank, IsWithin, IsRuleWithin, replacing_lowers, base_for}
 use Rattle.mg_rules.proofs.Chains.{descends_itself, descends_once, descends_on, descends_equal, common_between, common_turned, normal_stays}
 use Rattle.mg_rules.proofs.Firsts.{a_descendant, first_descends}

@@ -1,17 +1,17 @@
 -- First descendants: each word has one, in a system in which every rule decreases. Reading a word letter by letter
 -- finds the first occurrence.
 use Rattle.std.proofs.Common.{◌≡◌, ◌≢◌, ℕ, zero, suc, ◌+◌, ◌<◌, ◌≤◌, ◌⊎◌, ℤ, pos, negsuc, List, [], ◌∷◌, ◌++◌, length, refl, sym, ap, subst, ◌∙◌, inl, inr, append_assoc, arith}
-use Rattle.std.specs.Prelude.{Option, None, Some, slice_get}
+use Rattle.std.specs.Prelude.{None, Some}
 use Rattle.std.specs.List.{AllByRecursion}
 use Rattle.std.proofs.lemmas.Bool.{cases_order}
 use Rattle.std.proofs.lemmas.Option.{same_Some}
-use Rattle.std.proofs.lemmas.List.{append-nil, length-append, append_cancel_left, same_from_push}
-use Rattle.mg_rules.specs.Rule.{Rule, rule_numbered, Occurrence, Rewrites, Descends, IsNormal}
+use Rattle.std.proofs.lemmas.List.{append-nil, length-append, append_cancel_left}
+use Rattle.mg_rules.specs.Rule.{Rule, rule_numbered, Occurrence, Descends, IsNormal}
 use Rattle.mg_rules.specs.Shortlex.{Decreases, AllDecrease}
-use Rattle.mg_rules.specs.First.{end_of, ComesFirst, RewritesFirst, LeadsFirst, IsFirstDescendant, Ends, IsLeastEnd}
+use Rattle.mg_rules.specs.First.{end_of, RewritesFirst, LeadsFirst, IsFirstDescendant, Ends, IsLeastEnd}
 use Rattle.mg_rules.proofs.Parts.{cuts, same_front, some_length, empty_front, all_numbered}
-use Rattle.mg_rules.proofs.Ranks.{rank, IsWithin, IsRuleWithin, Lowers, replacing_lowers, base_for}
-use Rattle.mg_rules.proofs.Chains.{some_left, normal_front, descends_on, descends_once, descends_equal}
+use Rattle.mg_rules.proofs.Ranks.{rank, IsWithin, IsRuleWithin, replacing_lowers, base_for}
+use Rattle.mg_rules.proofs.Chains.{some_left, descends_on, descends_once, descends_equal}
 
 -- ---- one first occurrence, one first descendant
 

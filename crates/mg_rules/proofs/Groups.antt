@@ -1,14 +1,12 @@
 -- What a complete system says of a group: words that are the same there have equal normal descendants, and the other
 -- way round where the two sides of each rule are the same.
-use Rattle.std.proofs.Common.{◌≡◌, ◌≢◌, ℕ, zero, suc, ◌<◌, ℤ, neg_ℤ, List, [], ◌∷◌, ◌++◌, length, refl, sym, ap, subst, ◌∙◌, inl, inr, append_assoc, arith}
+use Rattle.std.proofs.Common.{◌≡◌, ℕ, ℤ, neg_ℤ, List, [], ◌∷◌, ◌++◌, sym, ap, subst, ◌∙◌, inl, inr, append_assoc}
 use Rattle.std.specs.Prelude.{Contains, slice_index_or}
 use Rattle.std.specs.List.{AllByRecursion}
-use Rattle.std.proofs.lemmas.List.{append-nil}
 use Rattle.std.proofs.lemmas.List.Elements.{All-from_recursion, All-contains, All-get_or}
-use Rattle.mg_words.specs.Letter.{IsLetterOf}
 use Rattle.mg_words.specs.Word.{IsOver, inv}
 use Rattle.mg_words.specs.Chain.{IsPiece, a_pair, a_relator, an_inverse, Inserts, Leads as StepsLead}
-use Rattle.mg_words.proofs.Chains.{inv-cons, IsOver-append, IsOver-left, IsOver-right, Same-refl, Same-trans, Same-sym, Same-between, Same-before, Same-after}
+use Rattle.mg_words.proofs.Chains.{inv-cons, IsOver-append, IsOver-left, IsOver-right, Same-trans, Same-sym, Same-before, Same-after}
 use Rattle.mg_present.specs.Presentation.{Group}
 use Rattle.mg_present.specs.Ask.{Inquiry}
 use Rattle.mg_present.specs.Same.{Same, Lies, Holds}
@@ -18,7 +16,7 @@ use Rattle.mg_rules.specs.Complete.{IsRuleOver, IsComplete, Refutes}
 use Rattle.mg_rules.proofs.Parts.{all_numbered}
 use Rattle.mg_rules.proofs.Chains.{descends_itself, descends_on, descends_equal, descends_between, common_below, common_turned}
 use Rattle.mg_rules.proofs.Firsts.{normal_empty}
-use Rattle.mg_rules.proofs.Confluence.{one_normal, common_normal, common_on}
+use Rattle.mg_rules.proofs.Confluence.{common_normal, common_on}
 
 -- a word that descends to a word over the generators is over them, where the rules are
 over_back : (m : ℕ) (rules : List Rule) → AllByRecursion (IsRuleOver m) rules → (u v : List ℤ) (words : List (List ℤ)) → Leads rules u words v → IsOver m v → IsOver m u

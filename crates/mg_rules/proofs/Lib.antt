@@ -3,6 +3,11 @@ mod Ranks
 mod Chains
 mod Firsts
 mod Confluence
-mod Groups
+pub mod Groups
 mod Reading
 mod Adding
+mod Meetings
+mod Orders
+mod Checks
+mod Behind
+mod Trees

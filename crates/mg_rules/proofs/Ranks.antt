@@ -1,6 +1,6 @@
 -- The rank of a word: its value as a text of digits, one for each generator and one for its inverse. Shortlex goes by
 -- ranks, so a rewriting by a rule that decreases lowers the rank of the word around it.
-use Rattle.std.proofs.Common.{◌≡◌, ℕ, zero, suc, ◌+◌, ◌<◌, ◌≤◌, ◌⊎◌, ℤ, pos, negsuc, List, [], ◌∷◌, ◌++◌, map, length, refl, sym, ap, subst, ◌∙◌, inl, inr, arith, max}
+use Rattle.std.proofs.Common.{◌≡◌, ℕ, ◌+◌, ◌<◌, ◌≤◌, ◌⊎◌, ℤ, pos, negsuc, List, [], ◌∷◌, ◌++◌, map, length, refl, sym, ap, subst, ◌∙◌, inl, inr, arith}
 use Rattle.std.specs.List.{AllByRecursion}
 use Rattle.std.specs.declared.cmp.Ordering.{Ordering}
 use Rattle.std.specs.declared.cmp.Ordering.TheVariants.{Less, Equal, Greater}
@@ -9,9 +9,9 @@ use Rattle.std.specs.Cmp.{ranked}
 use Rattle.std.proofs.lemmas.List.{map-append, length-map, length-append}
 use Rattle.mg_words.specs.Orders.{letter_cmp, letters_cmp}
 use Rattle.mg_words.proofs.Exact.{letter_exact}
-use Rattle.mg_numbers.specs.Texts.{IsDigit, IsText, value, IsLexBefore}
+use Rattle.mg_numbers.specs.Texts.{IsText, value, IsLexBefore}
 use Rattle.mg_numbers.proofs.TextsValues.{IsText-append, IsText-front, IsText-back, value_in_order}
-use Rattle.mg_rules.specs.Rule.{Rule, Occurrence, Rewrites}
+use Rattle.mg_rules.specs.Rule.{Rule, Occurrence}
 use Rattle.mg_rules.specs.Shortlex.{IsSmaller, AllDecrease, Decreases}
 use Rattle.mg_rules.proofs.Parts.{all_numbered}
 

@@ -1,18 +1,17 @@
 -- Reading: ends of words, the search for the least rule, and what a rewriting does to what is read.
-use Rattle.std.proofs.Common.{◌≡◌, ◌≢◌, ℕ, zero, suc, ◌+◌, ◌-◌, ◌<◌, ◌≤◌, ◌⊎◌, ℤ, List, [], ◌∷◌, ◌++◌, length, take, drop, reverse, refl, sym, ap, subst, ◌∙◌, inl, inr, append_assoc, add-one, arith}
-use Rattle.std.specs.Prelude.{Option, None, Some, Result, Ok, Err, OnOk, get_or, slice_get}
-use Rattle.std.specs.List.{AllByRecursion}
-use Rattle.std.proofs.lemmas.Bool.{cases_lt, cases_order}
+use Rattle.std.proofs.Common.{◌≡◌, ◌≢◌, ℕ, zero, suc, ◌+◌, ◌-◌, ◌<◌, ◌≤◌, ℤ, List, [], ◌∷◌, ◌++◌, length, take, drop, reverse, refl, sym, ap, subst, ◌∙◌, inl, inr, append_assoc, add-one, arith}
+use Rattle.std.specs.Prelude.{None, Some, Result, Ok, Err, OnOk, get_or, slice_get}
+use Rattle.std.proofs.lemmas.Bool.{cases_order}
 use Rattle.std.proofs.lemmas.Option.{same_Some, slice_get_within, slice_get_read}
-use Rattle.std.proofs.lemmas.List.{append-nil, length-append, reverse-append, take-append-drop, take_at, drop_at, take_rest, reverse-reverse, same_from_push}
+use Rattle.std.proofs.lemmas.List.{append-nil, length-append, reverse-append, take-append-drop, drop_at, take_rest, reverse-reverse, same_from_push}
 use Rattle.mg_rules.specs.declared.rewriter.Rewriting.{Rewriting}
-use Rattle.mg_rules.specs.Rule.{Rule, rule_numbered, Occurrence, IsNormal}
+use Rattle.mg_rules.specs.Rule.{Rule, rule_numbered, IsNormal}
 use Rattle.mg_rules.specs.Shortlex.{AllDecrease, Decreases}
 use Rattle.mg_rules.specs.First.{Ends, IsLeastEnd, IsFirstDescendant, RewritesFirst, RewritesAt}
 use Rattle.mg_rules.specs.Reading.{whole, EndsFirst, ReadsTo, Replaced, LeadsBy, Tells}
 use Rattle.mg_rules.proofs.Parts.{all_numbered, last_cases}
 use Rattle.mg_rules.proofs.Chains.{some_left, normal_front}
-use Rattle.mg_rules.proofs.Ranks.{rank, IsWithin, IsRuleWithin, base_for, replacing_lowers}
+use Rattle.mg_rules.proofs.Ranks.{rank, IsWithin, base_for, replacing_lowers}
 use Rattle.mg_rules.proofs.Firsts.{reads_on, uses_first, first_before, first_itself}
 
 -- ---- ends

@@ -1,6 +1,6 @@
 -- First descendants: the descendant that is reached by always replacing the occurrence that ends
 -- first.
-use Rattle.std.specs.Prelude.{◌≡◌, ℕ, zero, suc, ◌+◌, ◌<◌, ◌≤◌, ◌⊎◌, ℤ, Some, List, [], ◌∷◌, ◌++◌, length}
+use Rattle.std.specs.Prelude.{◌≡◌, ℕ, ◌+◌, ◌<◌, ◌≤◌, ◌⊎◌, ℤ, Some, List, [], ◌∷◌, ◌++◌, length}
 use Rattle.mg_rules.specs.Rule.{Rule, rule_numbered, Occurrence, IsNormal}
 
 -- how many letters of the word come before the end of the occurrence

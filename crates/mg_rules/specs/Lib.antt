@@ -4,4 +4,6 @@ pub mod First
 pub mod Reading
 pub mod Index
 pub mod Meeting
+pub mod Listing
 pub mod Complete
+pub mod Checking

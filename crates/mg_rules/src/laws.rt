@@ -8,7 +8,9 @@ ghost use Rattle.mg_present.specs.Same.{Same, Lies, Holds};
 ghost use Rattle.mg_rules.specs.Rule.{Rule, Descends, HaveCommon, IsNormal};
 ghost use Rattle.mg_rules.specs.Shortlex.{AllDecrease};
 ghost use Rattle.mg_rules.specs.First.{IsFirstDescendant};
+ghost use Rattle.mg_rules.specs.declared.meeting.Meeting.{Meeting};
 ghost use Rattle.mg_rules.specs.Meeting.{AllJoin};
+ghost use Rattle.mg_rules.specs.Listing.{Lists};
 ghost use Rattle.mg_rules.specs.Complete.{IsComplete, Refutes};
 
 /// In a system that decreases each word has one first descendant, which is normal and a descendant.
@@ -53,10 +55,14 @@ pub fn refuted_goals_do_not_lie()
         Holds ask → ⊥ }
 {}
 
-/// Where rules are added descendants stay descendants, and common descendants stay.
+/// Where rules are added descendants stay descendants, and common descendants stay. The list of
+/// overlaps and inclusions begins with that of the rules before.
 pub fn added_rules_keep_descendants()
     ensures descendants { (rules more : List Rule) (u v : List ℤ) →
         Descends rules u v → Descends (rules ++ more) u v }
     ensures common { (rules more : List Rule) (u v : List ℤ) →
         HaveCommon rules u v → HaveCommon (rules ++ more) u v }
+    ensures overlaps { (rules more : List Rule) (list longer : List Meeting) →
+        Lists rules list → Lists (rules ++ more) longer →
+        (behind : List Meeting) × (longer ≡ list ++ behind) }
 {}

@@ -1,4 +1,4 @@
-use Rattle.std.proofs.Common.{List, ℤ, sym, subst}
+use Rattle.std.proofs.Common.{List, ℤ, subst}
 use Rattle.mg_rules.specs.Rule.{Descends}
 use Rattle.mg_rules.proofs.Groups.{same_normal, normal_same}
 use Rattle.mg_rules.proofs.laws.complete_systems_decide.Goals as goal

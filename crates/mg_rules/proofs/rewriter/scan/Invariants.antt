@@ -1,4 +1,4 @@
-use Rattle.std.proofs.Common.{◌<◌, ◌≤◌, ℕ}
+use Rattle.std.proofs.Common.{◌<◌, ℕ}
 use Rattle.mg_rules.specs.First.{Ends}
 use Rattle.mg_rules.proofs.rewriter.scan.Given as goal
 

@@ -1,4 +1,4 @@
-use Rattle.std.proofs.Common.{length, arith}
+use Rattle.std.proofs.Common.{arith}
 use Rattle.mg_rules.proofs.Reading.{ends_from, ends_to}
 use Rattle.mg_rules.proofs.words.ends_with.Goals as goal
 

@@ -1,4 +1,4 @@
-use Rattle.std.proofs.Common.{◌≡◌, List, ℤ, sym, subst}
+use Rattle.std.proofs.Common.{List, ℤ, sym, subst}
 use Rattle.std.specs.Prelude.{OnOk}
 use Rattle.mg_rules.specs.Rule.{IsNormal}
 use Rattle.mg_rules.specs.First.{IsFirstDescendant}

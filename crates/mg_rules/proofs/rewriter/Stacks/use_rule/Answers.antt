@@ -1,5 +1,4 @@
-use Rattle.std.proofs.Common.{◌≡◌, ◌∙◌, ◌++◌, sym, ap, List, ℤ}
-use Rattle.std.specs.Prelude.{Some}
+use Rattle.std.proofs.Common.{◌≡◌, ◌∙◌, ◌++◌, sym, ap}
 use Rattle.std.proofs.lemmas.Option.{same_Some}
 use Rattle.mg_rules.specs.Rule.{Rule}
 use Rattle.mg_rules.proofs.Reading.{rule_used, replaced, on_ok_both}
