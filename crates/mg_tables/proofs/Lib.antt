@@ -1,3 +1,17 @@
-pub mod Tables
-pub mod Joining
-pub mod Complete
+mod Tables
+mod Joining
+mod Complete
+mod Gaps
+mod Filling
+mod Cells
+mod Kept
+mod Appending
+mod Scanning
+mod Ways
+mod Collapse
+mod Moving
+mod Clearing
+mod Going
+mod Finding
+mod Steps
+mod Leading
