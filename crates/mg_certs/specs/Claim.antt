@@ -3,13 +3,20 @@ use Rattle.std.specs.Prelude.{ℕ, List}
 use Rattle.mg_present.specs.Presentation.{Group}
 use Rattle.mg_present.specs.Ask.{Inquiry}
 use Rattle.mg_derive.specs.declared.symbol.Symbol.{Symbol}
+use Rattle.mg_numbers.specs.Perms.{PermTuple}
+use Rattle.mg_numbers.specs.Residues.{ResidueTuple}
+use Rattle.mg_rules.specs.Rule.{Rule}
 
 -- a certificate that each goal lies in the subgroup
 pub data Affirmation : Type 0 where
   derivation : List Symbol → Affirmation
 
--- a model of a group that can refute goals: there is no kind yet
+-- a model of a group, which can refute goals: a finite action, a map to residues, or a complete
+-- rewriting system
 pub data Model : Type 0 where
+  action : PermTuple → Model
+  residues : ResidueTuple → Model
+  complete : List Rule → Model
 
 -- the goals lie, or the goal at a place from 0 does not
 pub data Verdict : Type 0 where

@@ -1,19 +1,19 @@
 //! Claims: what code can put on record about groups.
 ghost use Rattle.std.specs.Prelude.{◌≡◌, IfOk, IfErr};
-ghost use Rattle.mg_certs.specs.Validity.{IsValid, key_of, group_of};
-ghost use Rattle.mg_certs.specs.Values.{fact_seen, claimed_by, IsRefused};
+ghost use Rattle.mg_certs.specs.Validity.{IsValid, recording};
+ghost use Rattle.mg_certs.specs.Values.{fact_seen, claimed_by, refuted_by, modelled_by, IsRefused, IsNoRefused, IsModelRefused};
 ghost use Rattle.mg_certs.specs.Records.{settles_or_models};
 ghost use Rattle.mg_present.proofs.Exact.{ask_exact, group_exact};
 
-use crate::verdict::{Verdict, Yes};
+use crate::verdict::{self, No, Verdict, Yes};
 use mg_core::{NoMemory, Record};
 use mg_present::{Ask, Presentation};
 use std::alloc::Global;
 use std::marker::Model;
 use thiserror::Error;
 
-/// A record whose certificate is accepted: an Ask settled by a verdict. There are no models of groups yet. A
-/// claim is seen as the fact that it puts on record.
+/// A record whose certificate is accepted: an Ask settled by a verdict, or a model as one of a group. A claim is
+/// seen as the fact that it puts on record.
 #[derive(Debug, Drop)]
 pub struct Claim {
     body: Body,
@@ -23,6 +23,7 @@ pub struct Claim {
 #[derive(Debug, Drop)]
 enum Body {
     Settled(Ask, Verdict),
+    ModelOf(Presentation, verdict::Model),
 }
 
 impl Model for Claim {
@@ -42,6 +43,8 @@ impl Model for Claim {
 pub enum ClaimView<'a> {
     /// The Ask is settled by the verdict.
     Settled(&'a Ask, &'a Verdict),
+    /// The model is one of the group.
+    ModelOf(&'a Presentation, &'a verdict::Model),
 }
 
 /// Why YES isn't claimed.
@@ -51,6 +54,28 @@ pub enum YesRefused {
     #[error("the certificate is not accepted")]
     NotAccepted(Ask, Yes),
     /// Want of memory.
+    #[error("no memory")]
+    NoMemory,
+}
+
+/// Why NO isn't claimed.
+#[derive(Debug, Drop, Error)]
+pub enum NoRefused {
+    /// The certificate isn't accepted for the Ask. Both come back.
+    #[error("the certificate is not accepted")]
+    NotAccepted(Ask, No),
+    /// Want of memory, which only a complete system leads to.
+    #[error("no memory")]
+    NoMemory,
+}
+
+/// Why a model isn't claimed.
+#[derive(Debug, Drop, Error)]
+pub enum ModelRefused {
+    /// The model isn't one of the group. Both come back.
+    #[error("the model is not one of the group")]
+    NotAccepted(Presentation, verdict::Model),
+    /// Want of memory, which only a complete system leads to.
     #[error("no memory")]
     NoMemory,
 }
@@ -80,6 +105,41 @@ pub fn claim_yes(alloc: Global, ask: Ask, certificate: Yes) -> Result<Claim, Yes
     })
 }
 
+/// Claims that a goal of the Ask doesn't lie in its subgroup. NotAccepted comes exactly where the certificate
+/// isn't accepted for the Ask.
+pub fn claim_no(alloc: Global, ask: Ask, certificate: No) -> Result<Claim, NoRefused>
+    ensures claimed { IfOk result (λ claim. claim ≡ refuted_by ask certificate) }
+    ensures valid { IfOk result (λ claim. IsValid claim) }
+    ensures refused { IfErr result (IsNoRefused ask certificate) }
+{
+    match certificate.is_accepted(alloc, &ask) {
+        Ok(true) => Ok(Claim {
+            body: Body::Settled(ask, Verdict::No(certificate)),
+        }),
+        Ok(false) => Err(NoRefused::NotAccepted(ask, certificate)),
+        Err(_) => Err(NoRefused::NoMemory),
+    }
+}
+
+/// Claims that the model is one of the group. NotAccepted comes exactly where it isn't.
+pub fn claim_model(
+    alloc: Global,
+    group: Presentation,
+    model: verdict::Model,
+) -> Result<Claim, ModelRefused>
+    ensures claimed { IfOk result (λ claim. claim ≡ modelled_by group model) }
+    ensures valid { IfOk result (λ claim. IsValid claim) }
+    ensures refused { IfErr result (IsModelRefused group model) }
+{
+    match model.is_accepted(alloc, &group) {
+        Ok(true) => Ok(Claim {
+            body: Body::ModelOf(group, model),
+        }),
+        Ok(false) => Err(ModelRefused::NotAccepted(group, model)),
+        Err(_) => Err(ModelRefused::NoMemory),
+    }
+}
+
 impl Claim {
     /// Lends what is claimed.
     pub fn view(&self) -> ClaimView<'_>
@@ -88,6 +148,7 @@ impl Claim {
     {
         match &self.body {
             Body::Settled(ask, verdict) => ClaimView::Settled(ask, verdict),
+            Body::ModelOf(group, model) => ClaimView::ModelOf(group, model),
         }
     }
 }
@@ -97,21 +158,19 @@ impl Record for Claim {
 
     type Group = Presentation;
 
-    ghost valid = { IsValid };
-
-    ghost settled = { key_of };
-
-    ghost modelled = { group_of };
+    ghost recording = { recording };
 
     fn settles(&self) -> Option<&Ask> {
         match &self.body {
             Body::Settled(ask, _) => Some(ask),
+            Body::ModelOf(..) => None,
         }
     }
 
     fn model_of(&self) -> Option<&Presentation> {
         match &self.body {
             Body::Settled(..) => None,
+            Body::ModelOf(group, _) => Some(group),
         }
     }
 
@@ -120,12 +179,15 @@ impl Record for Claim {
             Body::Settled(ask, verdict) => Ok(Claim {
                 body: Body::Settled(ask.copy(alloc)?, verdict.copy(alloc)?),
             }),
+            Body::ModelOf(group, model) => Ok(Claim {
+                body: Body::ModelOf(group.copy(alloc)?, model.copy(alloc)?),
+            }),
         }
     }
 
-    ghost exact_keys = { ask_exact };
-
-    ghost exact_groups = { group_exact };
-
-    ghost one_of_both = { settles_or_models };
+    ghost lawful = { record {
+      exact_keys = ask_exact;
+      exact_groups = group_exact;
+      one_of_both = settles_or_models;
+    } };
 }

@@ -1,13 +1,17 @@
-//! Claims that a^2 is one where a^2 is a relator.
-ghost use Rattle.std.specs.Prelude.{◌≤◌, IfOk, length};
+//! Claims that a^2 is one where a^2 is a relator, that a isn't, and of models of that group.
+ghost use Rattle.std.specs.Prelude.{◌≡◌, ◌≤◌, IfOk, length};
 ghost use Rattle.std.specs.List.{AllByRecursion};
 ghost use Rattle.mg_present.specs.Ask.{IsReducedOver};
 ghost use Rattle.mg_present.specs.Presentation.{IsRelator};
 
 use super::*;
+use mg_action::Action;
 use mg_core::Record;
+use mg_cyclic::Residues;
 use mg_derive::{Derivation, Symbol};
+use mg_fixtures::word;
 use mg_present::{Ask, MOST_RELATOR_LETTERS, Presentation};
+use mg_rules::{RulePair, RulePairs, Rules};
 use mg_words::{Letter, Word, Words, is_over, is_reduced};
 use std::alloc::{AllocError, Global};
 use std::test::Fail;
@@ -22,13 +26,13 @@ const RELATOR: Symbol = Symbol::Relator {
     inverse: false,
 };
 
-// The word a^2 alone.
-fn square(alloc: Global) -> Result<Words, NoMemory>
+// The word of these letters alone.
+fn one_word(alloc: Global, letters: &[Letter]) -> Result<Words, NoMemory>
     ensures relators { IfOk result (λ words. AllByRecursion (IsRelator 1) words) }
     ensures goals { IfOk result (λ words. AllByRecursion (IsReducedOver 1) words) }
     ensures count { IfOk result (λ words. length words ≤ 1) }
 {
-    let word = Word::from_letters(alloc, &[A, A])?;
+    let word = Word::from_letters(alloc, letters)?;
     if !is_reduced(&word) || !is_over(1, &word) || word.letters().len() > MOST_RELATOR_LETTERS {
         return Err(AllocError);
     }
@@ -37,9 +41,19 @@ fn square(alloc: Global) -> Result<Words, NoMemory>
     Ok(words)
 }
 
+fn group(alloc: Global) -> Result<Presentation, NoMemory>
+    ensures { IfOk result (λ group. group.generators ≡ 1) }
+{
+    Ok(Presentation::new(1, one_word(alloc, &[A, A])?))
+}
+
+// Whether the word of these letters is one.
+fn asked(alloc: Global, letters: &[Letter]) -> Result<Ask, NoMemory> {
+    Ok(Ask::new(group(alloc)?, Words::new(alloc), one_word(alloc, letters)?))
+}
+
 fn ask(alloc: Global) -> Result<Ask, NoMemory> {
-    let group = Presentation::new(1, square(alloc)?);
-    Ok(Ask::new(group, Words::new(alloc), square(alloc)?))
+    asked(alloc, &[A, A])
 }
 
 // What claiming YES by these symbols gives.
@@ -50,7 +64,9 @@ fn claimed(alloc: Global, symbols: &[Symbol]) -> Result<Claim, YesRefused> {
 
 // Whether the claim settles the Ask by these symbols.
 fn settles_by(claim: &Claim, ask: &Ask, symbols: &[Symbol]) -> bool {
-    let ClaimView::Settled(settled, Verdict::Yes(Yes::Derivation(text))) = claim.view();
+    let ClaimView::Settled(settled, Verdict::Yes(Yes::Derivation(text))) = claim.view() else {
+        return false;
+    };
     settled == ask && text.symbols() == symbols
 }
 
@@ -86,5 +102,96 @@ fn comes_back(alloc: Global, symbols: &[Symbol]) -> Result<bool, NoMemory> {
 #[test]
 fn the_relator_twice_is_refused(rt: HostRuntime) -> Result<(), Fail> {
     assert!(rt; comes_back(rt.alloc(), &[RELATOR, RELATOR, Symbol::Cut])?);
+    Ok(())
+}
+
+// The action of one generator with a number from 1 to 100.
+fn action(alloc: Global, number: u64) -> Result<Model, NoMemory> {
+    if number < 1 || number > 100 {
+        return Err(AllocError);
+    }
+    let mut action = Action::of_one_point(alloc, 1)?;
+    action.put_number(number);
+    Ok(Model::Action(action))
+}
+
+// The map that takes the generator to a residue.
+fn map(alloc: Global, modulus: u32, residue: u32) -> Result<Model, NoMemory> {
+    if modulus < 2 || residue >= modulus {
+        return Err(AllocError);
+    }
+    let map = Residues::from_images(alloc, modulus, &[residue])?;
+    Ok(Model::Residues(map))
+}
+
+// Whether it is claimed that a isn't one, by this goal and model.
+fn is_claimed(alloc: Global, goal: u32, model: Model) -> Result<bool, NoMemory> {
+    let ask = asked(alloc, &[A])?;
+    let Ok(claim) = claim_no(alloc, ask, No { goal, model }) else {
+        return Ok(false);
+    };
+    let ClaimView::Settled(_, Verdict::No(no)) = claim.view() else {
+        return Ok(false);
+    };
+    Ok(no.goal == goal && claim.copy(alloc)?.model_of().is_none())
+}
+
+// Whether the model is claimed as one of the group.
+fn is_model(alloc: Global, model: Model) -> Result<bool, NoMemory> {
+    match claim_model(alloc, group(alloc)?, model) {
+        Ok(claim) => Ok(claim.copy(alloc)?.model_of() == Some(&group(alloc)?)),
+        Err(_) => Ok(false),
+    }
+}
+
+#[test]
+fn a_goal_is_refuted(rt: HostRuntime) -> Result<(), Fail> {
+    let alloc = rt.alloc();
+    assert!(rt; is_claimed(alloc, 0, action(alloc, 3)?)?);
+    assert!(rt; is_claimed(alloc, 0, map(alloc, 2, 1)?)?);
+    assert!(rt; !is_claimed(alloc, 1, map(alloc, 2, 1)?)?);
+    Ok(())
+}
+
+#[test]
+fn models_are_of_the_group(rt: HostRuntime) -> Result<(), Fail> {
+    let alloc = rt.alloc();
+    assert!(rt; is_model(alloc, action(alloc, 3)?)?);
+    assert!(rt; !is_model(alloc, action(alloc, 7)?)?);
+    assert!(rt; !is_model(alloc, map(alloc, 3, 2)?)?);
+    Ok(())
+}
+
+// The rule with these sides.
+fn rule(alloc: Global, left: &str, right: &str) -> RulePair {
+    RulePair {
+        left: word(alloc, left),
+        right: word(alloc, right),
+    }
+}
+
+// The rules that take the inverse of a to a, and a^2 to the empty word.
+fn system(alloc: Global) -> Result<Model, NoMemory> {
+    let mut pairs = RulePairs::new(alloc);
+    pairs.push(rule(alloc, "A", "a"))?;
+    pairs.push(rule(alloc, "aa", "1"))?;
+    Ok(Model::Complete(Rules::from_pairs(pairs)))
+}
+
+// Whether it is claimed by the system that this word isn't one.
+fn is_refuted(alloc: Global, letters: &[Letter]) -> Result<bool, NoMemory> {
+    let no = No {
+        goal: 0,
+        model: system(alloc)?,
+    };
+    Ok(claim_no(alloc, asked(alloc, letters)?, no).is_ok())
+}
+
+#[test]
+fn a_complete_system_refutes_a_goal(rt: HostRuntime) -> Result<(), Fail> {
+    let alloc = rt.alloc();
+    assert!(rt; is_refuted(alloc, &[A])?);
+    assert!(rt; !is_refuted(alloc, &[A, A])?);
+    assert!(rt; is_model(alloc, system(alloc)?)?);
     Ok(())
 }

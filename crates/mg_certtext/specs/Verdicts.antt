@@ -1,11 +1,12 @@
 -- The texts of verdicts, where the generators have these names in order.
-use Rattle.std.specs.Prelude.{ℕ, Bool, true, false, List, [], ◌∷◌, ◌++◌, map, codes}
+use Rattle.std.specs.Prelude.{ℕ, ◌+◌, Bool, true, false, List, [], ◌∷◌, ◌++◌, map, codes}
 use Rattle.std.specs.Fmt.{decimal}
 use Rattle.mg_derive.specs.declared.symbol.Symbol.{Symbol}
 use Rattle.mg_derive.specs.declared.symbol.Symbol.TheVariants as symbols
-use Rattle.mg_certs.specs.Claim.{Verdict, affirmed, refuted, derivation}
+use Rattle.mg_certs.specs.Claim.{Model, Verdict, affirmed, refuted, derivation}
 use Rattle.mg_certtext.specs.Pieces.{spaced}
 use Rattle.mg_certtext.specs.Words.{run_piece}
+use Rattle.mg_certtext.specs.Models.{model_pieces}
 
 abbrev pub sign : Bool → List ℕ
 sign false = []
@@ -18,7 +19,11 @@ symbol_piece names (symbols.Relator place inverse) = codes "r" ++ decimal place 
 symbol_piece names (symbols.Member place inverse) = codes "[" ++ decimal place ++ codes "]" ++ sign inverse
 symbol_piece names symbols.Cut = codes ";"
 
--- the text of a verdict, without the end of its line; there is no model that could refute
+-- NO: the goal, counted from 1, and the model that refutes it
+abbrev pub no_text : List (List ℕ) → ℕ → Model → List ℕ
+no_text names goal model = codes "no" ++ spaced (codes "goal" ∷ decimal (goal + 1) ∷ model_pieces names model)
+
+-- the text of a verdict, without the end of its line
 abbrev pub verdict_text : List (List ℕ) → Verdict → List ℕ
 verdict_text names (affirmed (derivation text)) = codes "yes" ++ spaced (codes "derivation" ∷ map (symbol_piece names) text)
-verdict_text names (refuted goal model) = elim model [ ]
+verdict_text names (refuted goal model) = no_text names goal model

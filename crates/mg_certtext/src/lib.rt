@@ -2,11 +2,13 @@
 //! appends its text to the bytes handed in; where memory is wanting, these stay as they were.
 #![tactic(auto)]
 
+mod models;
 mod pieces;
 mod verdicts;
 mod words;
 
 pub use mg_lists::NoMemory;
+pub use models::push_model;
 pub use pieces::{push_bytes, push_count, push_number, push_piece};
 pub use verdicts::print;
 pub use words::{push_names, push_words};

@@ -1,5 +1,5 @@
 //! Pieces of a text.
-ghost use Rattle.std.specs.Prelude.{◌≡◌, [], ◌∷◌, ◌++◌, take, OnOk, OnErr};
+ghost use Rattle.std.specs.Prelude.{◌≡◌, [], ◌∷◌, ◌++◌, take, OnOk, OnErr, codes};
 ghost use Rattle.std.specs.Fmt.{decimal};
 ghost use Rattle.mg_certtext.specs.Pieces.{spaced};
 
@@ -39,6 +39,14 @@ pub fn push_piece(out: &mut Vec<u8>, piece: &[u8]) -> Result<(), NoMemory>
     push_bytes(out, b" ")?;
     let pushed = push_bytes(out, piece);
     all_or_nothing(out, length, pushed)
+}
+
+// Pushes the comma between two members of a list.
+pub(crate) fn push_comma(out: &mut Vec<u8>) -> Result<(), NoMemory>
+    ensures pushed { OnOk result (out.new.items ≡ out.old.items ++ spaced (codes "," ∷ [])) }
+    ensures kept { OnErr result (out.new.items ≡ out.old.items) }
+{
+    push_piece(out, b",")
 }
 
 // Pushes the decimal digits of a number.

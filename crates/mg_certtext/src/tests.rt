@@ -1,9 +1,13 @@
 use super::*;
-use mg_certs::{Verdict, Yes};
+use mg_action::Action;
+use mg_certs::{Model, No, Verdict, Yes};
+use mg_cyclic::Residues;
 use mg_derive::{Derivation, Symbol};
+use mg_fixtures::word;
 use mg_lists::List;
+use mg_rules::{RulePair, Rules};
 use mg_words::{Letter, Word};
-use std::alloc::Global;
+use std::alloc::{AllocError, Global};
 use std::test::*;
 
 const A: Letter = Letter {
@@ -56,6 +60,91 @@ fn derivation_prints(alloc: Global, symbols: &[Symbol], text: &[u8]) -> Result<b
     let verdict = Verdict::Yes(Yes::Derivation(derivation));
     let out = print(alloc, &verdict, names.as_slice())?;
     Ok(out.as_slice() == text)
+}
+
+/// The action of two generators with a number from 1 to 100.
+fn action(alloc: Global, number: u64) -> Result<Model, NoMemory> {
+    if number < 1 || number > 100 {
+        return Err(AllocError);
+    }
+    let mut action = Action::of_one_point(alloc, 2)?;
+    action.put_number(number);
+    Ok(Model::Action(action))
+}
+
+/// Whether this is the text of NO for the goal at a place, from 0, by the model.
+fn no_prints(alloc: Global, goal: u32, model: Model, text: &[u8]) -> Result<bool, NoMemory> {
+    let out = print(alloc, &Verdict::No(No { goal, model }), &[])?;
+    Ok(out.as_slice() == text)
+}
+
+#[test]
+fn image_lists_have_commas_between_them(rt: HostRuntime) -> Result<(), Fail> {
+    let alloc = rt.alloc();
+    assert!(rt;
+        no_prints(
+            alloc,
+            0,
+            action(alloc, 15)?,
+            b"no goal 1 action 3 : 0 2 1 , 1 2 0"
+        )?
+    );
+    let no_generator = Model::Action(Action::of_one_point(alloc, 0)?);
+    assert!(rt; no_prints(alloc, 2, no_generator, b"no goal 3 action 1 :")?);
+    Ok(())
+}
+
+#[test]
+fn residues_have_none(rt: HostRuntime) -> Result<(), Fail> {
+    let map = Residues::from_images(rt.alloc(), 12, &[1, 0])?;
+    assert!(rt;
+        no_prints(
+            rt.alloc(),
+            0,
+            Model::Residues(map),
+            b"no goal 1 residues 12 : 1 0"
+        )?
+    );
+    Ok(())
+}
+
+/// The rules with these left and right sides.
+fn system(alloc: Global, pairs: &[(&str, &str)]) -> Result<Model, NoMemory> {
+    let mut rules = Rules::from_pairs(List::new(alloc));
+    for (left, right) in pairs {
+        rules.push(RulePair {
+            left: word(alloc, left),
+            right: word(alloc, right),
+        })?;
+    }
+    Ok(Model::Complete(rules))
+}
+
+/// Whether this is the text of NO for the first goal by the rules.
+fn system_prints(alloc: Global, pairs: &[(&str, &str)], text: &[u8]) -> Result<bool, NoMemory> {
+    let names = a_and_b(alloc)?;
+    let no = No {
+        goal: 0,
+        model: system(alloc, pairs)?,
+    };
+    let out = print(alloc, &Verdict::No(no), names.as_slice())?;
+    Ok(out.as_slice() == text)
+}
+
+#[test]
+fn rules_have_an_arrow_and_commas_between_them(rt: HostRuntime) -> Result<(), Fail> {
+    let alloc = rt.alloc();
+    let pairs = [("A", "a"), ("aa", "1")];
+    assert!(rt; system_prints(alloc, &pairs, b"no goal 1 complete : a^-1 -> a , a^2 -> 1")?);
+    assert!(rt;
+        system_prints(
+            alloc,
+            &[("aAb", "b")],
+            b"no goal 1 complete : a a^-1 b -> b"
+        )?
+    );
+    assert!(rt; system_prints(alloc, &[], b"no goal 1 complete :")?);
+    Ok(())
 }
 
 #[test]

@@ -2,13 +2,14 @@
 ghost use Rattle.std.specs.Prelude.{◌≡◌, [], ◌∷◌, ◌++◌, IfOk, OnOk};
 ghost use Rattle.std.specs.Fmt.{decimal};
 ghost use Rattle.mg_certs.specs.Claim.{affirmed, derivation};
-ghost use Rattle.mg_certs.specs.Values.{verdict_of};
+ghost use Rattle.mg_certs.specs.Values.{model_value, verdict_of};
 ghost use Rattle.mg_certtext.specs.Pieces.{spaced};
-ghost use Rattle.mg_certtext.specs.Verdicts.{sign, symbol_piece, verdict_text};
+ghost use Rattle.mg_certtext.specs.Verdicts.{sign, symbol_piece, no_text, verdict_text};
 
-use crate::pieces::{push_bytes, push_decimal, push_piece};
+use crate::models::push_model;
+use crate::pieces::{push_bytes, push_count, push_decimal, push_piece};
 use crate::words::push_run;
-use mg_certs::{Verdict, Yes};
+use mg_certs::{No, Verdict, Yes};
 use mg_derive::{Derivation, Symbol};
 use mg_lists::{List, NoMemory};
 use std::alloc::Global;
@@ -72,6 +73,18 @@ fn print_derivation(
     Ok(out)
 }
 
+/// The text of NO: the goal, counted from 1, and the model.
+fn print_no(alloc: Global, no: &No, names: &[List<u8>]) -> Result<Vec<u8>, NoMemory>
+    ensures { IfOk result (λ printed. printed.items
+        ≡ no_text names.now no.now.goal (model_value no.now.model)) }
+{
+    let mut out = Vec::new(alloc);
+    push_bytes(&mut out, b"no")?;
+    push_count(alloc, &mut out, b"goal", no.goal as u128 + 1)?;
+    push_model(alloc, &mut out, names, &no.model)?;
+    Ok(out)
+}
+
 /// The text of a verdict, where the generators have these names in order. It has no end of a line.
 pub fn print(alloc: Global, verdict: &Verdict, names: &[List<u8>]) -> Result<Vec<u8>, NoMemory>
     ensures { IfOk result (λ printed. printed.items
@@ -79,5 +92,6 @@ pub fn print(alloc: Global, verdict: &Verdict, names: &[List<u8>]) -> Result<Vec
 {
     match verdict {
         Verdict::Yes(Yes::Derivation(text)) => print_derivation(alloc, text, names),
+        Verdict::No(no) => print_no(alloc, no, names),
     }
 }

@@ -1,11 +1,11 @@
 //! The pieces of words and of lists of words.
-ghost use Rattle.std.specs.Prelude.{◌≡◌, [], ◌∷◌, ◌++◌, OnOk, OnErr, map, codes};
+ghost use Rattle.std.specs.Prelude.{◌≡◌, [], ◌∷◌, ◌++◌, OnOk, OnErr, map};
 ghost use Rattle.std.specs.Ordering.{int_eq};
 ghost use Rattle.mg_words.specs.Word.{letters_of};
 ghost use Rattle.mg_certtext.specs.Pieces.{spaced, more_listed, Extends};
 ghost use Rattle.mg_certtext.specs.Words.{name_of, run_piece, runs_of, word_pieces, words_pieces, names_pieces};
 
-use crate::pieces::{all_or_nothing, push_bytes, push_decimal, push_piece};
+use crate::pieces::{all_or_nothing, push_bytes, push_comma, push_decimal, push_piece};
 use mg_lists::{List, NoMemory};
 use mg_words::{Letter, Word};
 use std::alloc::Global;
@@ -76,8 +76,8 @@ fn push_runs(
     push_run(alloc, out, names, run, count)
 }
 
-/// Pushes the pieces of a word.
-fn push_word(
+// Pushes the pieces of a word.
+pub(crate) fn push_word(
     alloc: Global,
     out: &mut Vec<u8>,
     names: &[List<u8>],
@@ -91,13 +91,6 @@ fn push_word(
         [] => push_piece(out, b"1"),
         [first, rest @ ..] => push_runs(alloc, out, names, *first, rest),
     }
-}
-
-fn push_comma(out: &mut Vec<u8>) -> Result<(), NoMemory>
-    ensures pushed { OnOk result (out.new.items ≡ out.old.items ++ spaced (codes "," ∷ [])) }
-    ensures kept { OnErr result (out.new.items ≡ out.old.items) }
-{
-    push_piece(out, b",")
 }
 
 /// Pushes a list of words, each piece behind a space, where the generators have these names in order.

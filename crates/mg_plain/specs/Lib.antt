@@ -1,2 +1,3 @@
 pub mod Plain
 pub mod Sounds
+pub mod Objects

@@ -9,14 +9,21 @@ use Rattle.mg_turn.specs.Turn.{Sound, EndFits, Settles, records_of}
 use Rattle.mg_words.specs.declared.procedure.Procedure.{Procedure}
 use Rattle.mg_words.specs.declared.procedure.Procedure.TheVariants.{Derive, Act, Residue, Rewrite, Cosets, Nielsen, Recall}
 use Rattle.mg_present.specs.Ask.{Inquiry}
-use Rattle.mg_certs.specs.Claim.{Fact}
-use Rattle.mg_certs.specs.Validity.{recording, IsValid}
-use Rattle.mg_plain.specs.Plain.{Plain, Publishes, PlainEnd, searching}
+use Rattle.mg_certs.specs.Claim.{Fact, Model, action, residues}
+use Rattle.mg_certs.specs.Validity.{recording, IsValid, AcceptedModel}
+use Rattle.mg_plain.specs.Plain.{Plain, PublishesNo, Publishes, PlainEnd, searching}
+
+-- NO and the model behind it are valid, and NO settles the Ask
+no_valid : (ask : Inquiry) (model : Model) (records : List Fact) → PublishesNo ask model records → AcceptedModel ask.group model → AllByRecursion IsValid records
+no_valid ask model records p of_group = subst (AllByRecursion IsValid) (sym p.records_are) (p.refutes, (of_group, tt))
+
+no_settles : (ask : Inquiry) (model : Model) (records : List Fact) → PublishesNo ask model records → Settles recording ask records
+no_settles ask model records p = subst (Settles recording ask) (sym p.records_are) (refl, lit≤ tt, (refl, tt))
 
 published_valid : (procedure : Procedure) (ask : Inquiry) (n : ℕ) (records : List Fact) → Publishes procedure ask n records → AllByRecursion IsValid records
 published_valid Derive ask n records p = subst (AllByRecursion IsValid) (sym p.3) (p.2, tt)
-published_valid Act ask n records p = absurd p
-published_valid Residue ask n records p = absurd p
+published_valid Act ask n records p = no_valid ask (action p.0) records p.2 p.2.refutes.is_action
+published_valid Residue ask n records p = no_valid ask (residues p.0) records p.2 p.2.refutes.is_map
 published_valid Rewrite ask n records p = absurd p
 published_valid Cosets ask n records p = absurd p
 published_valid Nielsen ask n records p = absurd p
@@ -24,8 +31,8 @@ published_valid Recall ask n records p = absurd p
 
 published_settles : (procedure : Procedure) (ask : Inquiry) (n : ℕ) (records : List Fact) → Publishes procedure ask n records → Settles recording ask records
 published_settles Derive ask n records p = subst (Settles recording ask) (sym p.3) (refl, lit≤ tt, tt)
-published_settles Act ask n records p = absurd p
-published_settles Residue ask n records p = absurd p
+published_settles Act ask n records p = no_settles ask (action p.0) records p.2
+published_settles Residue ask n records p = no_settles ask (residues p.0) records p.2
 published_settles Rewrite ask n records p = absurd p
 published_settles Cosets ask n records p = absurd p
 published_settles Nielsen ask n records p = absurd p

@@ -1,43 +1,45 @@
 //! Plain searches.
-ghost use Rattle.std.specs.Prelude.{◌≡◌, ◌+◌, ◌^◌, ◌≤◌, true, Some, IfOk, OnOk, OnErr, [], ◌∷◌, length};
+ghost use Rattle.std.specs.Prelude.{◌≡◌, ◌+◌, ◌^◌, ◌≤◌, true, Some, IfOk, IfErr, OnOk, OnErr, length};
 ghost use Rattle.std.specs.List.{AllByRecursion};
 ghost use Rattle.mg_turn.specs.Stops.{StopsBy};
-ghost use Rattle.mg_derive.specs.Acceptance.{IsAccepted};
-ghost use Rattle.mg_certs.specs.Claim.{derivation, affirmed, settled};
 ghost use Rattle.mg_certs.specs.Validity.{group_of};
-ghost use Rattle.mg_plain.specs.Plain.{IsPlain, IsStarted, IsSearched, SomeAccepted, PlainTurn};
+ghost use Rattle.mg_plain.specs.Plain.{IsPlain, IsStarted, IsSearched, SomeAccepted, PlainTurn, searching};
+ghost use Rattle.mg_plain.specs.Objects.{IsNotStarted};
 ghost use Rattle.mg_plain.specs.Sounds.{plain_sound};
 
-use mg_certs::{Claim, Yes, YesRefused, claim_yes};
-use mg_core::{Facts, NoMemory, Records};
-use mg_derive::Enumeration;
+use crate::objects::Objects;
+use mg_certs::Claim;
+use mg_core::{Facts, NoMemory};
 use mg_numbers::Advance;
-use mg_present::{Ask, Presentation};
+use mg_present::{Ask, Presentation, applies};
 use mg_turn::{Outcome, Searcher, Stop, TurnEnd};
 use mg_words::Procedure;
-use std::alloc::{AllocError, Global};
+use std::alloc::Global;
 use std::marker::Model;
 use thiserror::Error;
 
-/// A search that tests the objects of its procedure in the order of their numbers, one for each unit. So far the
-/// procedure is derive, and the objects are derivations.
+/// A search that tests the objects of its procedure in the order of their numbers, one for each unit. The procedure
+/// is derive, act or residue, and the objects are derivations, finite actions or maps to residues.
 #[derive(Debug, Drop)]
 pub struct Plain {
-    texts: Enumeration,
+    objects: Objects,
 }
 
 impl Model for Plain {
-    ghost use Rattle.mg_words.specs.declared.procedure.Procedure.TheVariants.{Derive};
     ghost use Rattle.mg_plain.specs.Plain.{Plain};
+    ghost use Rattle.mg_plain.specs.Objects.{seen};
 
     ghost Value = { Plain };
 
-    ghost view = { λ search. record { procedure = Derive; ask = search.texts.ask; cursor = search.texts.cursor; is_open = search.texts.is_open } };
+    ghost view = { λ search. seen search.objects };
 }
 
 /// Why a search isn't started.
 #[derive(Clone, Copy, Debug, PartialEq, Eq, Error)]
 pub enum StartRefused {
+    /// The procedure may not be used for the Ask.
+    #[error("the procedure does not apply")]
+    DoesNotApply,
     /// Want of memory.
     #[error("no memory")]
     NoMemory,
@@ -54,27 +56,25 @@ impl From<NoMemory> for StartRefused {
 }
 
 impl Plain {
-    /// A search that has tested nothing yet. It takes all the memory that testing needs.
+    /// A search that has tested nothing yet. It takes all the memory that testing needs. DoesNotApply comes
+    /// exactly where the procedure may not be used for the Ask.
     pub fn start(alloc: Global, procedure: Procedure, ask: &Ask) -> Result<Plain, StartRefused>
         requires { IsPlain procedure }
-        ensures { IfOk result (λ search. IsStarted procedure ask.now search) }
+        ensures started { IfOk result (λ search. IsStarted procedure ask.now search) }
+        ensures refused { IfErr result (IsNotStarted procedure ask.now) }
     {
-        match procedure {
-            Procedure::Derive => {
-                let texts = Enumeration::start(alloc, ask.copy(alloc)?)?;
-                Ok(Plain { texts })
-            }
-            _ => unreachable!(),
+        if !applies(procedure, ask) {
+            return Err(StartRefused::DoesNotApply);
         }
+        let objects = Objects::start(alloc, procedure, ask)?;
+        Ok(Plain { objects })
     }
 
     /// The procedure.
     pub fn procedure(&self) -> Procedure
         ensures { result ≡ self.now.procedure }
     {
-        // There is no other procedure yet.
-        let _texts = &self.texts;
-        Procedure::Derive
+        self.objects.procedure()
     }
 
     /// The number of the last object tested, which is how many units are spent.
@@ -83,46 +83,19 @@ impl Plain {
         ensures most { result ≤ 2 ^ 62 }
         ensures searched { IsSearched self.now }
     {
-        self.texts.cursor()
+        self.objects.cursor()
     }
-}
-
-/// The Ask settled by the derivation that the search through texts has found.
-fn settled_by(alloc: Global, texts: &Enumeration) -> Result<Records<Claim>, NoMemory>
-    requires { IsAccepted texts.now.ask texts.now.text }
-    ensures { IfOk result (λ records. records ≡ settled texts.now.ask (affirmed (derivation texts.now.text)) ∷ []) }
-{
-    let ask = texts.ask().copy(alloc)?;
-    let text = texts.text().copy(alloc)?;
-    let claim = match claim_yes(alloc, ask, Yes::Derivation(text)) {
-        Ok(claim) => claim,
-        Err(YesRefused::NoMemory) => return Err(AllocError),
-        Err(YesRefused::NotAccepted(..)) => unreachable!(),
-    };
-    let mut records = Records::new(alloc);
-    records.push(claim)?;
-    Ok(records)
 }
 
 impl Searcher<Claim> for Plain {
-    ghost key_of = { λ search. search.ask };
-
-    ghost group_of = { λ search. search.ask.group };
-
-    ghost wants_of = { λ search units. 0 };
-
-    ghost spent_of = { λ search. search.cursor };
-
-    ghost is_open_of = { λ search. search.is_open };
-
-    ghost turns = { λ search units facts outcome after. PlainTurn search units outcome after };
+    ghost searching = { searching };
 
     fn key(&self) -> &Ask {
-        self.texts.ask()
+        self.objects.ask()
     }
 
     fn group(&self) -> &Presentation {
-        self.texts.ask().group()
+        self.objects.ask().group()
     }
 
     fn wants(&self, _units: u64) -> u32 {
@@ -131,6 +104,7 @@ impl Searcher<Claim> for Plain {
 
     /// One turn, which doesn't look at its Stop. Memory can be wanting only where a number up to the last one that
     /// the units reach is accepted.
+    #[tactic(auto, using(crate::proofs::Testing::objects_plain, crate::proofs::Testing::turn_more, crate::proofs::Testing::turn_found, crate::proofs::Testing::some_accepted))]
     fn turn<T: Stop<Claim>>(
         &mut self,
         alloc: Global,
@@ -142,21 +116,23 @@ impl Searcher<Claim> for Plain {
         requires some_units { 1 ≤ units }
         requires in_all { self.old.cursor + units ≤ 2 ^ 62 }
         requires few { length facts.records ≤ 0 }
-        requires of_group { AllByRecursion (λ fact. group_of fact ≡ Some self.old.ask.group) facts.records }
+        requires of_group { AllByRecursion (λ fact. group_of fact ≡
+            Some self.old.ask.group) facts.records }
         ensures turns { IfOk result (λ outcome. PlainTurn self.old units outcome self.new) }
         ensures key { OnOk result (self.new.ask ≡ self.old.ask) }
         ensures group { OnOk result (self.new.ask.group ≡ self.old.ask.group) }
         ensures stopped { IfOk result (λ outcome. StopsBy outcome.end (T.known _stop.new)) }
-        ensures memory { OnErr result (SomeAccepted self.old.procedure self.old.ask self.old.cursor (self.old.cursor + units)) }
+        ensures memory { OnErr result (SomeAccepted self.old.procedure self.old.ask
+            self.old.cursor (self.old.cursor + units)) }
     {
         drop(facts);
-        let Advance::Found { spent } = self.texts.advance(units) else {
+        let Advance::Found { spent } = self.objects.advance(units) else {
             return Ok(Outcome {
                 spent: units,
                 end: TurnEnd::More,
             });
         };
-        let records = settled_by(alloc, &self.texts)?;
+        let records = self.objects.records(alloc)?;
         Ok(Outcome {
             spent,
             end: TurnEnd::Found(records),

@@ -3,7 +3,7 @@ ghost use Rattle.std.specs.Prelude.{◌≡◌, ◌+◌, ◌^◌, ◌≤◌, None
 ghost use Rattle.std.specs.List.{AllByRecursion};
 ghost use Rattle.mg_present.specs.Ask.{IsReducedOver};
 ghost use Rattle.mg_present.specs.Presentation.{IsRelator};
-ghost use Rattle.mg_plain.specs.Plain.{Plain as PlainOf};
+ghost use Rattle.mg_plain.specs.Plain.{Plain as PlainOf, IsPlain};
 
 use super::*;
 use mg_certs::{Claim, ClaimView, Verdict, Yes};
@@ -98,17 +98,42 @@ fn are_the_claim(alloc: Global, records: &[Claim]) -> Result<bool, NoMemory> {
     let [claim] = records else {
         return Ok(false);
     };
-    let ClaimView::Settled(settled, Verdict::Yes(Yes::Derivation(text))) = claim.view();
+    let ClaimView::Settled(settled, Verdict::Yes(Yes::Derivation(text))) = claim.view() else {
+        return Ok(false);
+    };
     Ok(*settled == ask(alloc)? && text.symbols() == [RELATOR, Symbol::Cut].as_slice())
+}
+
+// A search for a derivation that has tested nothing.
+fn started(alloc: Global) -> Result<Plain, NoMemory>
+    ensures goes_on { IfOk result (λ search. search.is_open ≡ true) }
+    ensures cursor { IfOk result (λ search. search.cursor ≡ 0) }
+{
+    match Plain::start(alloc, Procedure::Derive, &ask(alloc)?) {
+        Ok(search) => Ok(search),
+        Err(_) => Err(AllocError),
+    }
+}
+
+// Whether the search has tested 20 texts.
+fn has_tested_twenty(search: &Plain) -> bool
+    ensures { IsTrue result → search.now.cursor ≡ 20 }
+{
+    search.cursor() == 20
+}
+
+// Whether a search goes on with 20 units and finds `r1 ;` with the next one.
+fn finds_at_its_number(alloc: Global) -> Result<bool, NoMemory> {
+    let mut search = started(alloc)?;
+    if !goes_on(alloc, &mut search, 20)? || !has_tested_twenty(&search) {
+        return Ok(false);
+    }
+    finds_by_one(alloc, &mut search)
 }
 
 #[test]
 fn finds_at_its_number_and_not_before(rt: HostRuntime) -> Result<(), Fail> {
-    let alloc = rt.alloc();
-    let mut search = Plain::start(alloc, Procedure::Derive, &ask(alloc)?)?;
-    assert!(rt; goes_on(alloc, &mut search, 20)?);
-    assert_eq!(rt; search.cursor(), 20);
-    assert!(rt; finds_by_one(alloc, &mut search)?);
+    assert!(rt; finds_at_its_number(rt.alloc())?);
     Ok(())
 }
 
@@ -119,5 +144,26 @@ fn searches_are_of_their_ask(rt: HostRuntime) -> Result<(), Fail> {
     let search = Plain::start(alloc, Procedure::Derive, &ask)?;
     assert!(rt; search.key() == &ask && search.group() == ask.group());
     assert_eq!(rt; search.wants(20), 0);
+    Ok(())
+}
+
+// Whether the procedure doesn't apply to what is asked of the group without generators.
+fn needs_a_generator(alloc: Global, procedure: Procedure) -> bool
+    requires { IsPlain procedure }
+{
+    let group = Presentation::free(alloc, 0);
+    let ask = Ask::new(group, Words::new(alloc), Words::new(alloc));
+    match Plain::start(alloc, procedure, &ask) {
+        Err(StartRefused::DoesNotApply) => true,
+        _ => false,
+    }
+}
+
+#[test]
+fn act_and_residue_need_a_generator(rt: HostRuntime) -> Result<(), Fail> {
+    let alloc = rt.alloc();
+    assert!(rt; needs_a_generator(alloc, Procedure::Act));
+    assert!(rt; needs_a_generator(alloc, Procedure::Residue));
+    assert!(rt; !needs_a_generator(alloc, Procedure::Derive));
     Ok(())
 }

@@ -4,9 +4,10 @@ use Rattle.std.specs.List.{flat_map, range_with_len}
 use Rattle.std.specs.Fmt.{decimal}
 use Rattle.mg_core.specs.declared.entries.Entry.{Entry}
 use Rattle.mg_words.specs.declared.procedure.Procedure.{Procedure}
-use Rattle.mg_certs.specs.Claim.{Fact, settled, model_of}
+use Rattle.mg_certs.specs.Claim.{Model, Fact, settled, model_of}
 use Rattle.mg_certtext.specs.Pieces.{line}
-use Rattle.mg_report.specs.Report.{ask_text, verdict_line, procedure_piece}
+use Rattle.mg_certtext.specs.Models.{model_pieces}
+use Rattle.mg_report.specs.Report.{group_text, ask_text, verdict_line, procedure_piece}
 
 -- the texts of members that are numbered from a number on, one behind another
 abbrev pub numbered : {X : Type 0} → (ℕ → X → List ℕ) → ℕ → List X → List ℕ
@@ -17,11 +18,19 @@ numbered text n (x ∷ xs) = text n x ++ numbered text (n + 1) xs
 abbrev pub standard_names : ℕ → List (List ℕ)
 standard_names generators = map (λ n. codes "x" ++ decimal n) (range_with_len 1 generators)
 
--- a fact: what is asked, with the verdict; there is no kind of model yet
+-- which fact it is, and of which kind
+abbrev pub fact_line : ℕ → List ℕ → List ℕ
+fact_line n kind = line (codes "fact") (decimal n ∷ kind ∷ [])
+
+-- the line of a model, where the generators have these names in order
+unfoldable pub model_line : List (List ℕ) → Model → List ℕ
+model_line names model = line (codes "model") (model_pieces names model)
+
+-- a fact: what is asked, with the verdict; or a group, with the model
 abbrev pub fact_text : ℕ → Fact → List ℕ
 fact_text n (settled ask verdict) =
-    line (codes "fact") (decimal n ∷ codes "settled" ∷ []) ++ ask_text (standard_names ask.group.generators) ask ++ verdict_line (standard_names ask.group.generators) verdict
-fact_text n (model_of group model) = elim model [ ]
+    fact_line n (codes "settled") ++ ask_text (standard_names ask.group.generators) ask ++ verdict_line (standard_names ask.group.generators) verdict
+fact_text n (model_of group model) = fact_line n (codes "model") ++ group_text (standard_names group.generators) group.relators ++ model_line (standard_names group.generators) model
 
 -- all facts of a log
 abbrev pub facts_text : List Fact → List ℕ

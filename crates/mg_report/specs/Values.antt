@@ -1,14 +1,15 @@
 -- What the values handed in say.
 use Rattle.std.specs.Prelude.{ℕ, Option, map, option_map}
 use Rattle.std.specs.Borrow.{Bor}
-use Rattle.mg_certs.specs.Claim.{Verdict, Fact, settled}
-use Rattle.mg_certs.specs.Values.{verdict_of}
+use Rattle.mg_certs.specs.Claim.{Verdict, Fact, settled, model_of}
+use Rattle.mg_certs.specs.Values.{model_value, verdict_of}
 use Rattle.mg_certs.specs.declared.verdict.Verdict.{Verdict as Answer}
 use Rattle.mg_report.specs.Report.{SearchLine, QuestionBlock}
 use Rattle.mg_report.specs.Log.{Fate, kept, dropped_by, EntryLine, SumLine}
 use Rattle.mg_report.specs.declared.blocks.SearchLine.{SearchLine as Search}
 use Rattle.mg_report.specs.declared.blocks.QuestionBlock.{QuestionBlock as Question}
 use Rattle.mg_report.specs.declared.facts.FactBlock.{FactBlock}
+use Rattle.mg_report.specs.declared.facts.FactBlock.TheVariants.{Settled, ModelOf}
 use Rattle.mg_report.specs.declared.log.Fate.{Fate as EntryFate}
 use Rattle.mg_report.specs.declared.log.Fate.TheVariants.{Kept, DroppedBy}
 use Rattle.mg_report.specs.declared.log.EntryLine.{EntryLine as Entry}
@@ -24,7 +25,8 @@ abbrev pub block_of : Question → QuestionBlock
 block_of b = record { name = b.name.now; names = b.names.now; ask = b.ask.now; verdict = found_of b.verdict; searches = map search_of b.searches }
 
 abbrev pub fact_of : FactBlock → Fact
-fact_of f = settled f.ask.now (verdict_of f.verdict.now)
+fact_of (Settled ask verdict) = settled ask.now (verdict_of verdict.now)
+fact_of (ModelOf group model) = model_of group.now (model_value model.now)
 
 abbrev pub fate_of : EntryFate → Fate
 fate_of (Kept records) = kept records

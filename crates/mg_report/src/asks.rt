@@ -11,9 +11,9 @@ use mg_present::Ask;
 use mg_words::{Word, Words};
 use std::alloc::Global;
 
-/// Pushes the line of a group.
+// Pushes the line of a group.
 #[tactic(auto, unfolding(crate::specs::Report::group_text))]
-fn push_group(
+pub(crate) fn push_group(
     alloc: Global,
     out: &mut Vec<u8>,
     names: &[List<u8>],

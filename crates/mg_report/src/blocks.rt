@@ -67,6 +67,7 @@ fn answer_bytes(verdict: &Verdict) -> &'static [u8]
 {
     match verdict {
         Verdict::Yes(_) => b"YES",
+        Verdict::No(_) => b"NO",
     }
 }
 

@@ -4,7 +4,8 @@ ghost use Rattle.mg_present.specs.Ask.{IsReducedOver};
 ghost use Rattle.mg_present.specs.Presentation.{IsRelator};
 
 use super::*;
-use mg_certs::{Verdict, Yes};
+use mg_certs::{Model, No, Verdict, Yes};
+use mg_cyclic::Residues;
 use mg_derive::{Derivation, Symbol};
 use mg_ledger::Account;
 use mg_lists::List;
@@ -153,12 +154,64 @@ fn a_fact_of_a_log(rt: HostRuntime) -> Result<(), Fail> {
     };
     let text = Derivation::from_symbols(rt.alloc(), &[sign, Symbol::Cut])?;
     let verdict = Verdict::Yes(Yes::Derivation(text));
-    let fact = FactBlock {
-        ask: &ask,
-        verdict: &verdict,
-    };
+    let fact = FactBlock::Settled(&ask, &verdict);
     let printed = report_facts(rt.alloc(), &[fact])?;
     assert_eq!(rt; printed.as_slice(), FACTS);
+    Ok(())
+}
+
+/// The group of S3, in which it is asked whether `a` is one.
+fn involution(alloc: Global) -> Result<Ask, NoMemory> {
+    asks(alloc, 2, &[&[A, A], &[B, B, B], &[A, B, A, B]], &[A])
+}
+
+/// The map that takes the first of two generators to 1 modulo 2, and the second to 0.
+fn parity(alloc: Global) -> Result<Model, NoMemory> {
+    Ok(Model::Residues(Residues::from_images(alloc, 2, &[1, 0])?))
+}
+
+const REFUTED: &[u8] =
+    b"report\nfunded 100 purse 97\nquestion q NO fact 1\ngroup < a , b | a^2 , b^3 , a b a b >\nsubgroup < >\ngoals < a >\nno goal 1 residues 2 : 1 0\nsearch residue granted 3 spent 3 held 0 returned 0 end found\nend\n";
+
+#[test]
+fn a_refuted_question(rt: HostRuntime) -> Result<(), Fail> {
+    let ask = involution(rt.alloc())?;
+    let verdict = Verdict::No(No {
+        goal: 0,
+        model: parity(rt.alloc())?,
+    });
+    let line = SearchLine {
+        procedure: Procedure::Residue,
+        account: Account {
+            granted: 3,
+            spent: 3,
+            held: 0,
+            returned: 0,
+        },
+        end: End::Found,
+    };
+    let printed = report_one(rt.alloc(), &ask, 97, Some((1, &verdict)), line)?;
+    assert_eq!(rt; printed.as_slice(), REFUTED);
+    Ok(())
+}
+
+const MODELS: &[u8] =
+    b"facts\nfact 1 settled\ngroup < x1 , x2 | x1^2 , x2^3 , x1 x2 x1 x2 >\nsubgroup < >\ngoals < x1 >\nno goal 1 residues 2 : 1 0\nfact 2 model\ngroup < x1 , x2 | x1^2 , x2^3 , x1 x2 x1 x2 >\nmodel residues 2 : 1 0\nend\n";
+
+#[test]
+fn a_model_is_a_fact(rt: HostRuntime) -> Result<(), Fail> {
+    let ask = involution(rt.alloc())?;
+    let model = parity(rt.alloc())?;
+    let verdict = Verdict::No(No {
+        goal: 0,
+        model: parity(rt.alloc())?,
+    });
+    let facts = [
+        FactBlock::Settled(&ask, &verdict),
+        FactBlock::ModelOf(ask.group(), &model),
+    ];
+    let printed = report_facts(rt.alloc(), &facts)?;
+    assert_eq!(rt; printed.as_slice(), MODELS);
     Ok(())
 }
 

@@ -6,12 +6,11 @@ use Rattle.mg_turn.specs.declared.outcome.TurnEnd.{TurnEnd}
 use Rattle.mg_turn.specs.declared.outcome.TurnEnd.TheVariants.{More, Found, Closed, Idle, Stopped, Full}
 use Rattle.mg_turn.specs.Turn.{Sound, EndFits}
 use Rattle.mg_words.specs.declared.procedure.Procedure.{Procedure}
-use Rattle.mg_words.specs.declared.procedure.Procedure.TheVariants.{Derive, Act, Residue, Rewrite, Cosets, Nielsen, Recall}
 use Rattle.mg_present.specs.Ask.{Inquiry}
 use Rattle.mg_present.specs.Applies.{Applies}
 use Rattle.mg_certs.specs.Claim.{Fact}
 use Rattle.mg_certs.specs.Validity.{recording}
-use Rattle.mg_plain.specs.Plain.{Plain, IsPlain, searching as plain_searching}
+use Rattle.mg_plain.specs.Plain.{Plain, searching as plain_searching}
 use Rattle.mg_plain.specs.Sounds.{plain_sound}
 use Rattle.mg_plain.proofs.Turns.{turn_procedure, started_searched, turn_searched}
 use Rattle.mg_search.specs.Search.{Search, plain, procedure_of, is_open, SearchTurn, Opens, InRow, searching}
@@ -50,14 +49,5 @@ keeps_row (plain search) units facts outcome (plain after) opened turn row = tur
 pub opens_in_row : (procedure : Procedure) (ask : Inquiry) (search : Search) → Opens procedure ask search → InRow search
 opens_in_row procedure ask (plain search) opens = started_searched procedure ask search opens
 
-applies : (procedure : Procedure) (ask : Inquiry) → IsPlain procedure → Applies procedure ask
-applies Derive ask h = tt
-applies Act ask h = absurd h
-applies Residue ask h = absurd h
-applies Rewrite ask h = absurd h
-applies Cosets ask h = absurd h
-applies Nielsen ask h = absurd h
-applies Recall ask h = tt
-
 pub opens_applies : (procedure : Procedure) (ask : Inquiry) (search : Search) → Opens procedure ask search → Applies procedure ask
-opens_applies procedure ask (plain search) opens = applies procedure ask opens.is_plain
+opens_applies procedure ask (plain search) opens = opens.applies

@@ -13,5 +13,6 @@ pub fn all_turns_are_sound()
 
 /// A search is started only where its procedure may be used.
 pub fn a_search_opens_where_it_applies()
-    ensures { (procedure : ProcedureOf) (ask : Inquiry) (search : Search) → Opens procedure ask search → Applies procedure ask }
+    ensures { (procedure : ProcedureOf) (ask : Inquiry) (search : Search) →
+        Opens procedure ask search → Applies procedure ask }
 {}

@@ -2,7 +2,6 @@
 use Rattle.std.proofs.Common.{◌≡◌, ℕ, List, [], ◌∷◌, ◌++◌, ◌⊎◌, inl, inr, refl, sym, subst, ◌∙◌}
 use Rattle.mg_lex.specs.declared.refusal.Refused.{Refused}
 use Rattle.mg_script.specs.declared.script.ScriptLine.{ScriptLine}
-use Rattle.mg_script.specs.Script.{IsScript}
 use Rattle.mg_script.proofs.Scripts.{one_script}
 use Rattle.mg_script.proofs.Scripts as reading
 use Rattle.mg_script.proofs.Total.{script_or_refusal}

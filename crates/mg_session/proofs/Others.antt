@@ -1,5 +1,5 @@
--- Lines that grant or cancel a search by another procedure than `derive`.
-use Rattle.std.proofs.Common.{◌≡◌, ◌≢◌, ℕ, ◌<◌, ◌≤◌, ◌↔◌, Bool, IsTrue, List, [], ◌∷◌, length, get_or, refl, sym, subst, arith}
+-- Lines that grant or cancel a search by a procedure that isn't built.
+use Rattle.std.proofs.Common.{◌≡◌, ℕ, ◌<◌, ◌≤◌, ◌↔◌, Bool, IsTrue, List, [], ◌∷◌, length, get_or, refl, sym, subst, arith}
 use Rattle.mg_lex.specs.declared.keyword.Keyword.{Keyword}
 use Rattle.mg_lex.specs.declared.keyword.Keyword.TheVariants as keyword
 use Rattle.mg_terms.specs.declared.lexeme.Lexeme.{Lexeme}
@@ -7,34 +7,33 @@ use Rattle.mg_terms.specs.declared.lexeme.Lexeme.TheVariants as lexeme
 use Rattle.mg_words.specs.declared.procedure.Procedure.{Procedure}
 use Rattle.mg_words.specs.declared.procedure.Procedure.TheVariants.{Derive, Act, Residue, Rewrite, Cosets, Nielsen, Recall}
 use Rattle.mg_script.specs.Statement.{procedure_keyword}
+use Rattle.mg_plain.specs.Plain.{IsPlain}
 use Rattle.mg_session.specs.Scripts.{UsesOther, grants, cancels}
 use Rattle.mg_session.specs.Other.{IsOther, IsOtherName}
 
--- the procedure of another name
+-- the procedure of such a name
 record Named (name : Keyword) : Type 0 where
   procedure : Procedure
-  other : procedure ≢ Derive
+  other : IsPlain procedure → ⊥
   name_is : procedure_keyword procedure ≡ name
 
 named : (name : Keyword) → IsOtherName name → Named name
-named keyword.Act h = record { procedure = Act; other = λ e. cc e; name_is = refl }
-named keyword.Residue h = record { procedure = Residue; other = λ e. cc e; name_is = refl }
-named keyword.Rewrite h = record { procedure = Rewrite; other = λ e. cc e; name_is = refl }
-named keyword.Cosets h = record { procedure = Cosets; other = λ e. cc e; name_is = refl }
-named keyword.Nielsen h = record { procedure = Nielsen; other = λ e. cc e; name_is = refl }
-named keyword.Recall h = record { procedure = Recall; other = λ e. cc e; name_is = refl }
+named keyword.Rewrite h = record { procedure = Rewrite; other = λ built. built; name_is = refl }
+named keyword.Cosets h = record { procedure = Cosets; other = λ built. built; name_is = refl }
+named keyword.Nielsen h = record { procedure = Nielsen; other = λ built. built; name_is = refl }
+named keyword.Recall h = record { procedure = Recall; other = λ built. built; name_is = refl }
 named _ h = absurd h
 
--- a keyword that names no procedure names no other one
+-- a keyword that names no procedure names none that isn't built
 pub not_named : (name : Keyword) → ((p : Procedure) → procedure_keyword p ≡ name → ⊥) → IsOtherName name → ⊥
 not_named name none h =
     let p : Named name = named name h in
     none p.procedure p.name_is
 
-is_other : (p : Procedure) → p ≢ Derive → IsOtherName (procedure_keyword p)
-is_other Derive h = absurd (h refl)
-is_other Act h = tt
-is_other Residue h = tt
+is_other : (p : Procedure) → (IsPlain p → ⊥) → IsOtherName (procedure_keyword p)
+is_other Derive h = absurd (h tt)
+is_other Act h = absurd (h tt)
+is_other Residue h = absurd (h tt)
 is_other Rewrite h = tt
 is_other Cosets h = tt
 is_other Nielsen h = tt

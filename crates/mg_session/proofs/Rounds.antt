@@ -29,7 +29,7 @@ all_there (row ∷ rows) = (tt, all_there rows)
 -- a model settles nothing
 exclusive : (r : Fact) → recording.valid r → IsSome (recording.model_of r) → IsNone (recording.settles r)
 exclusive (settled ask verdict) valid model = absurd (cc model)
-exclusive (model_of group model) valid is = absurd valid
+exclusive (model_of group model) valid is = refl
 
 -- a row that has made a turn stands as its last turn ended, and has left where that says so
 pub record HasTurned (row : Row Search) : Type 0 where

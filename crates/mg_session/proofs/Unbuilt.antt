@@ -1,5 +1,5 @@
 -- Scripts in which no line uses what isn't built have plans that are built.
-use Rattle.std.proofs.Common.{◌≡◌, ◌≢◌, ℕ, ◌<◌, ◌+◌, List, [], ◌∷◌, ◌++◌, length, refl, sym, subst, ap, take, drop, get_or, ◌∙◌, suc, drop-cons}
+use Rattle.std.proofs.Common.{◌≡◌, ℕ, ◌<◌, ◌+◌, List, [], ◌∷◌, ◌++◌, length, refl, sym, subst, ap, take, drop, get_or, ◌∙◌, suc, drop-cons}
 use Rattle.std.proofs.lemmas.List.{take-append-drop, take_more}
 use Rattle.mg_terms.specs.declared.lexeme.Lexeme.{Lexeme}
 use Rattle.std.specs.Prelude.{Option, Some, None, Result, Err}
@@ -29,7 +29,7 @@ use Rattle.mg_session.specs.Output.{Prints}
 use Rattle.mg_session.specs.Scripts as scripts
 use Rattle.mg_session.specs.Scripts.{UsesOther, UseNone, IsFirstOther, Resolves, Unbuilt, IsOutput}
 
--- the first line that uses another procedure, behind lines that don't
+-- the first line that uses what isn't built, behind lines that don't
 pub is_first : (script : List ScriptLine) (i : ℕ) (line : ScriptLine) (lexemes : List Lexeme) → i < length script → line ≡ get_or script i line → lexemes ≡ line.lexemes →
     UseNone (take i script) → UsesOther lexemes → IsFirstOther script line.number
 is_first script i line lexemes there at same none other = record {
@@ -48,15 +48,15 @@ none_so_far script i line lexemes there at same none other =
     let more : UseNone (take i script ++ line ∷ []) = all_append (λ l. UsesOther l.lexemes → ⊥) (take i script) (line ∷ []) none ((λ uses. other (subst UsesOther (sym same) uses)), tt) in
     subst UseNone (sym (take_more script i line there ∙ ap (λ l. take i script ++ l ∷ []) (sym at))) more
 
--- a procedure is built, or another than `derive`
-plain_unless : (p : Procedure) → (p ≢ procedure.Derive → ⊥) → IsPlain p
+-- a procedure is built or isn't
+plain_unless : (p : Procedure) → ((IsPlain p → ⊥) → ⊥) → IsPlain p
 plain_unless procedure.Derive h = tt
-plain_unless procedure.Act h = absurd (h (λ e. cc e))
-plain_unless procedure.Residue h = absurd (h (λ e. cc e))
-plain_unless procedure.Rewrite h = absurd (h (λ e. cc e))
-plain_unless procedure.Cosets h = absurd (h (λ e. cc e))
-plain_unless procedure.Nielsen h = absurd (h (λ e. cc e))
-plain_unless procedure.Recall h = absurd (h (λ e. cc e))
+plain_unless procedure.Act h = tt
+plain_unless procedure.Residue h = tt
+plain_unless procedure.Rewrite h = h (λ built. built)
+plain_unless procedure.Cosets h = h (λ built. built)
+plain_unless procedure.Nielsen h = h (λ built. built)
+plain_unless procedure.Recall h = h (λ built. built)
 
 -- the steps of the scope's plan are built
 abbrev AreBuilt : Scope → Type 0
@@ -117,7 +117,7 @@ cancel_built scope p (Some (a_subgroup place words)) plain built = built
 cancel_built scope p (Some (a_map from to images)) plain built = built
 cancel_built scope p (Some (a_question place)) plain built = one_more scope (steps.cancel place p) built plain
 
--- a statement that uses no other procedure keeps the plan built
+-- a statement that uses nothing that isn't built keeps the plan built
 after_built : (scope : Scope) (line : ScriptLine) (s : Statement) → IsNamed line s → (UsesOther line.lexemes → ⊥) → AreBuilt scope → AreBuilt (after scope s)
 after_built scope line (group n generators rs) named none built = built
 after_built scope line (word n g w) named none built = word_built scope n w (lookup scope.names g.text) built
@@ -147,7 +147,7 @@ all_behind : {X : Type 0} (P : X → Type 0) (xs ys : List X) → AllByRecursion
 all_behind P [] ys h = h
 all_behind P (x ∷ xs) ys h = all_behind P xs ys h.1
 
--- where no line of a script uses another procedure, no line of it is unbuilt
+-- where no line of a script uses what isn't built, no line of it is unbuilt
 no_first : (script : List ScriptLine) (line : ℕ) → UseNone script → IsFirstOther script line → ⊥
 no_first script line none first =
     let behind : UseNone (first.front ++ first.line ∷ first.back) = subst UseNone first.split none in

@@ -1,6 +1,6 @@
 -- What is printed of verdicts and facts holds.
-use Rattle.std.proofs.Common.{◌≡◌, ℕ, zero, suc, ◌<◌, true, false, List, [], ◌∷◌, ◌++◌, length, take, refl, ap, sym, ◌∙◌, subst, cond, arith}
-use Rattle.std.specs.Prelude.{Option, Some, None, IfSome, Contains, slice_get, slice_index_or}
+use Rattle.std.proofs.Common.{◌≡◌, ℕ, zero, suc, ◌<◌, List, [], ◌∷◌, ◌++◌, length, refl, ap, sym, ◌∙◌, subst, cond, arith}
+use Rattle.std.specs.Prelude.{Option, Some, IfSome, slice_get, slice_index_or}
 use Rattle.std.specs.List.{AllByRecursion}
 use Rattle.mg_core.specs.declared.entries.Entry.{Entry}
 use Rattle.mg_core.specs.Log.{facts_of}
@@ -10,7 +10,7 @@ use Rattle.mg_names.specs.Plan.{Plan, Step}
 use Rattle.mg_certs.specs.Claim.{Verdict, affirmed, refuted, Fact, settled}
 use Rattle.mg_certs.specs.Validity.{IsValid, Accepted, IsTrueOf}
 use Rattle.mg_certs.proofs.Truth.{accepted_is_true}
-use Rattle.mg_report.specs.Log.{Fate, kept, dropped_by, EntryLine, entry_line}
+use Rattle.mg_report.specs.Log.{EntryLine}
 use Rattle.mg_session.specs.State.{State, Params}
 use Rattle.mg_session.specs.Output.{IsEntryLine, is_kept, is_dropped, TextOf, Texts}
 use Rattle.mg_session.specs.StateOk.{StateOk}

@@ -1,12 +1,10 @@
--- Lexemes that name a procedure other than `derive`.
+-- Lexemes that name a procedure that isn't built.
 use Rattle.mg_lex.specs.declared.keyword.Keyword.{Keyword}
-use Rattle.mg_lex.specs.declared.keyword.Keyword.TheVariants.{Act, Residue, Rewrite, Cosets, Nielsen, Recall}
+use Rattle.mg_lex.specs.declared.keyword.Keyword.TheVariants.{Rewrite, Cosets, Nielsen, Recall}
 use Rattle.mg_terms.specs.declared.lexeme.Lexeme.{Lexeme}
 use Rattle.mg_terms.specs.declared.lexeme.Lexeme.TheVariants as lexeme
 
 abbrev pub IsOtherName : Keyword → Type 0
-IsOtherName Act = Unit {0}
-IsOtherName Residue = Unit {0}
 IsOtherName Rewrite = Unit {0}
 IsOtherName Cosets = Unit {0}
 IsOtherName Nielsen = Unit {0}

@@ -1,15 +1,15 @@
 -- What bytes are to a session: a script with a meaning, or refused; and what isn't built of it.
-use Rattle.std.specs.Prelude.{◌≡◌, ◌≢◌, ℕ, List, ◌∷◌, ◌++◌}
+use Rattle.std.specs.Prelude.{◌≡◌, ℕ, List, ◌∷◌, ◌++◌}
 use Rattle.std.specs.List.{AllByRecursion}
 use Rattle.mg_lex.specs.declared.refusal.Refused.{Refused}
 use Rattle.mg_terms.specs.declared.lexeme.Lexeme.{Lexeme}
 use Rattle.mg_words.specs.declared.procedure.Procedure.{Procedure}
-use Rattle.mg_words.specs.declared.procedure.Procedure.TheVariants.{Derive}
 use Rattle.mg_script.specs.declared.script.ScriptLine.{ScriptLine}
 use Rattle.mg_script.specs.Script.{IsScript}
 use Rattle.mg_script.specs.Script as reading
 use Rattle.mg_script.specs.Statement.{grant, cancel, statement_lexemes}
 use Rattle.mg_names.specs.Scope.{Scope}
+use Rattle.mg_plain.specs.Plain.{IsPlain}
 use Rattle.mg_names.specs.Resolve.{Means}
 use Rattle.mg_names.specs.Resolve as resolving
 use Rattle.mg_session.specs.State.{Params}
@@ -26,10 +26,10 @@ pub data IsRefused (bytes : List ℕ) (r : Refused) : Type 0 where
   in_reading : reading.IsRefused bytes r → IsRefused bytes r
   in_resolving : (script : List ScriptLine) → IsScript bytes script → resolving.IsRefused script r → IsRefused bytes r
 
--- the line grants or cancels a search by another procedure than `derive`
+-- the line grants or cancels a search by a procedure that isn't built
 pub data UsesOther (line : List Lexeme) : Type 0 where
-  grants : (p : Procedure) (units : ℕ) → p ≢ Derive → statement_lexemes (grant p units) ≡ line → UsesOther line
-  cancels : (p : Procedure) → p ≢ Derive → statement_lexemes (cancel p) ≡ line → UsesOther line
+  grants : (p : Procedure) (units : ℕ) → (IsPlain p → ⊥) → statement_lexemes (grant p units) ≡ line → UsesOther line
+  cancels : (p : Procedure) → (IsPlain p → ⊥) → statement_lexemes (cancel p) ≡ line → UsesOther line
 
 -- no line does so
 abbrev pub UseNone : List ScriptLine → Type 0

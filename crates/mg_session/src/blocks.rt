@@ -21,7 +21,9 @@ pub(crate) fn first_blocks<'a>(
 ) -> Result<Vec<QuestionBlock<'a>>, NoMemory>
     requires plan { IsPlan plan.now }
     requires there { questions ≤ length plan.now.questions }
-    ensures { IfOk result (λ blocks. AreBlocks plan.now session.now 0 (take questions plan.now.questions) (map block_of blocks.items)) }
+    ensures { IfOk result (λ blocks.
+        AreBlocks plan.now session.now 0 (take questions plan.now.questions)
+        (map block_of blocks.items)) }
 {
     let mut blocks = Vec::new(alloc);
     for place in 0..questions {
@@ -74,7 +76,8 @@ fn search_lines(alloc: Global, session: &Session, question: u32) -> Result<Searc
 
 /// What a report says of the searches of a question, in the order of their numbers.
 fn own_lines(alloc: Global, session: &Session, question: u32) -> Result<SearchLines, NoMemory>
-    ensures { IfOk result (λ lines. map search_of lines ≡ map line_of (filter (λ search. search.question == question) session.now.searches)) }
+    ensures { IfOk result (λ lines. map search_of lines ≡
+        map line_of (filter (λ search. search.question == question) session.now.searches)) }
 {
     let mut lines = SearchLines::new(alloc);
     for place in 0..session.count() {

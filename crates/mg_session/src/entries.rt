@@ -22,7 +22,8 @@ use std::alloc::Global;
 /// What is printed of the entries of the log.
 pub(crate) fn entry_lines(alloc: Global, session: &Session) -> Result<Vec<EntryLine>, NoMemory>
     requires { AllByRecursion (HasCause session.now) session.now.log }
-    ensures { IfOk result (λ lines. EachPair (IsEntryLine session.now) session.now.log (map entry_of lines.items)) }
+    ensures { IfOk result (λ lines.
+        EachPair (IsEntryLine session.now) session.now.log (map entry_of lines.items)) }
 {
     let mut lines = Vec::new(alloc);
     let mut entries = session.entries();
@@ -78,7 +79,8 @@ pub(crate) fn sum_lines<'a>(
     session: &Session,
 ) -> Result<Vec<SumLine<'a>>, NoMemory>
     requires { StateOk plan.now 1 session.now }
-    ensures { IfOk result (λ lines. EachPair (IsSumLine plan.now session.now) session.now.searches (map sum_of lines.items)) }
+    ensures { IfOk result (λ lines.
+        EachPair (IsSumLine plan.now session.now) session.now.searches (map sum_of lines.items)) }
 {
     let mut lines = Vec::new(alloc);
     for place in 0..session.count() {

@@ -4,7 +4,7 @@ ghost use Rattle.mg_core.specs.Log.{facts_of};
 ghost use Rattle.mg_report.specs.Values.{fact_of};
 
 use crate::state::Session;
-use mg_certs::ClaimView;
+use mg_certs::{Claim, ClaimView};
 use mg_lists::NoMemory;
 use mg_report::FactBlock;
 use std::alloc::Global;
@@ -16,8 +16,17 @@ pub(crate) fn fact_blocks(alloc: Global, session: &Session) -> Result<Vec<FactBl
     let mut blocks = Vec::new(alloc);
     let claims = session.facts();
     for claim in claims {
-        let ClaimView::Settled(ask, verdict) = claim.view();
-        blocks.push(FactBlock { ask, verdict })?;
+        blocks.push(block_of(claim))?;
     }
     Ok(blocks)
+}
+
+/// What is printed of a fact.
+fn block_of(claim: &Claim) -> FactBlock<'_>
+    ensures { fact_of result ≡ claim.now }
+{
+    match claim.view() {
+        ClaimView::Settled(ask, verdict) => FactBlock::Settled(ask, verdict),
+        ClaimView::ModelOf(group, model) => FactBlock::ModelOf(group, model),
+    }
 }

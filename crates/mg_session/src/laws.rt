@@ -139,19 +139,22 @@ pub fn refused_steps_change_nothing<P: Sizes>()
     ensures fund { (plan : Plan) (workers units : ℕ) (old new : State)
         (shown shown' text : List ℕ) → MOST_FUNDED < old.funded + units →
         After plan (record { workers = workers; IsSize = P.is_size }) (fund units) old new →
-        TextOf plan (record { workers = workers; IsSize = P.is_size }) shown (fund units) old text shown' →
+        TextOf plan (record { workers = workers; IsSize = P.is_size }) shown
+        (fund units) old text shown' →
         (new ≡ old) × (text ≡ fund_refused old.funded) }
     ensures grant { (plan : Plan) (workers question units : ℕ) (procedure : ProcedureOf)
         (old new : State) (shown shown' text : List ℕ) → old.purse < units →
         After plan (record { workers = workers; IsSize = P.is_size })
         (grant question procedure units) old new →
-        TextOf plan (record { workers = workers; IsSize = P.is_size }) shown (grant question procedure units) old text shown' →
+        TextOf plan (record { workers = workers; IsSize = P.is_size }) shown
+        (grant question procedure units) old text shown' →
         (new ≡ old) × (text ≡ grant_refused old.purse) }
     ensures cancel { (plan : Plan) (workers question : ℕ) (procedure : ProcedureOf)
         (old new : State) (shown shown' text : List ℕ) → IsAbsent old question procedure →
         After plan (record { workers = workers; IsSize = P.is_size })
         (cancel question procedure) old new →
-        TextOf plan (record { workers = workers; IsSize = P.is_size }) shown (cancel question procedure) old text shown' →
+        TextOf plan (record { workers = workers; IsSize = P.is_size }) shown
+        (cancel question procedure) old text shown' →
         (new ≡ old) × (text ≡ cancel_refused) }
 {}
 

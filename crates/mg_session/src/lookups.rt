@@ -88,6 +88,7 @@ impl Session {
             None => None,
             Some((number, claim)) => match claim.view() {
                 ClaimView::Settled(_, verdict) => Some((number, verdict)),
+                ClaimView::ModelOf(..) => unreachable!(),
             },
         }
     }

@@ -1,6 +1,8 @@
 //! Steps of a session that move units.
 ghost use Rattle.std.specs.Prelude.{◌≡◌, ◌<◌, List, ℕ, length, IfOk, OnOk};
 ghost use Rattle.mg_present.specs.Ask.{Inquiry};
+ghost use Rattle.mg_present.specs.Applies.{Applies};
+ghost use Rattle.mg_names.specs.IsPlan.{CanBeAsked};
 ghost use Rattle.mg_names.specs.Plan.{Plan as PlanOf, AskOf, fund, grant, cancel};
 ghost use Rattle.mg_plain.specs.Plain.{IsPlain, IsStarted};
 ghost use Rattle.mg_session.specs.Session.{After, IsAbsent};
@@ -30,12 +32,14 @@ fn ask_at(plan: &Plan, question: u32) -> &Ask
 
 /// A search that has spent nothing.
 fn start(alloc: Global, procedure: Procedure, ask: &Ask) -> Result<Plain, NoMemory>
-    requires { IsPlain procedure }
+    requires built { IsPlain procedure }
+    requires applies { Applies procedure ask.now }
     ensures { IfOk result (λ search. IsStarted procedure ask.now search) }
 {
     match Plain::start(alloc, procedure, ask) {
         Ok(search) => Ok(search),
         Err(StartRefused::NoMemory) => Err(AllocError),
+        Err(StartRefused::DoesNotApply) => unreachable!(),
     }
 }
 
@@ -62,13 +66,15 @@ impl Session {
         procedure: Procedure,
         units: u64,
     ) -> Result<Vec<u8>, NoMemory>
-        requires asked { (ask : Inquiry) × AskOf plan.now question ask }
+        requires asked { CanBeAsked plan.now question procedure }
         requires built { IsPlain procedure }
         requires few { length self.old.searches < u32.MAX }
         requires counted { AreCounted self.old }
-        ensures after { OnOk result (After plan.now one_worker (grant question procedure units) self.old self.new) }
+        ensures after { OnOk result (After plan.now one_worker (grant question procedure units)
+            self.old self.new) }
         ensures text { IfOk result (λ text. (shown : List ℕ) →
-            TextOf plan.now one_worker shown (grant question procedure units) self.old text.items shown) }
+            TextOf plan.now one_worker shown (grant question procedure units) self.old text.items
+            shown) }
     {
         let purse = self.ledger.purse();
         if units > purse {
@@ -87,10 +93,11 @@ impl Session {
         question: u32,
         procedure: Procedure,
     ) -> Result<u32, NoMemory>
-        requires asked { (ask : Inquiry) × AskOf plan.now question ask }
+        requires asked { CanBeAsked plan.now question procedure }
         requires built { IsPlain procedure }
         requires few { length self.old.searches < u32.MAX }
-        ensures { IfOk result (λ place. IsReady plan.now question procedure self.old place self.new) }
+        ensures { IfOk result (λ place.
+            IsReady plan.now question procedure self.old place self.new) }
     {
         match self.place_of(question, procedure) {
             Some(place) => Ok(place),

@@ -66,8 +66,10 @@ fn part(
 ) -> Result<Parted, NoMemory>
     requires cells { HaveCells searches.items ledger.now.cells }
     requires each { length runs.now ≡ length searches.items }
-    ensures places { IfOk result (λ parted. parted.places.items ≡ places_of runs.now searches.items) }
-    ensures running { IfOk result (λ parted. parted.running ≡ running 0 runs.now searches.items ledger.now.cells) }
+    ensures places { IfOk result (λ parted. parted.places.items ≡
+        places_of runs.now searches.items) }
+    ensures running { IfOk result (λ parted. parted.running ≡
+        running 0 runs.now searches.items ledger.now.cells) }
 {
     let mut places = Vec::new(alloc);
     let mut running = HeldList::new(alloc);
@@ -105,8 +107,16 @@ fn keep(question: u32, held: Held<Plain>) -> Kept
 fn take_spent(ledger: &mut Ledger, cell: u32, spent: u64)
     requires there { cell < length ledger.old.cells }
     requires rises { (account_at ledger.old cell).spent ≤ spent }
-    requires within { spent ≤ (account_at ledger.old cell).spent + (account_at ledger.old cell).held }
-    ensures { ledger.new ≡ record (ledger.old) { cells = slice_set ledger.old.cells cell (record (account_at ledger.old cell) { spent = spent; held = (account_at ledger.old cell).held + (account_at ledger.old cell).spent - spent }) } }
+    requires within { spent ≤
+        (account_at ledger.old cell).spent + (account_at ledger.old cell).held }
+    ensures { ledger.new ≡ record (ledger.old) {
+      cells =
+          slice_set ledger.old.cells cell (record (account_at ledger.old cell) {
+            spent = spent;
+            held =
+                (account_at ledger.old cell).held + (account_at ledger.old cell).spent - spent;
+          });
+    } }
 {
     let before = ledger.account(cell).spent;
     ledger.spend(cell, spent - before);
@@ -153,7 +163,8 @@ fn join(
     requires few { length places.items < 2 ^ 32 }
     requires spent { HaveSpent places.items ran ledger.old.cells }
     ensures searches { IfOk result (λ searches. searches.items ≡ joined places.items ran) }
-    ensures cells { OnOk result (ledger.new ≡ record (ledger.old) { cells = cells_after places.items ran ledger.old.cells }) }
+    ensures cells { OnOk result (ledger.new ≡
+        record (ledger.old) { cells = cells_after places.items ran ledger.old.cells }) }
 {
     let mut ran = turned_round(alloc, ran)?;
     let mut searches = Vec::new(alloc);
@@ -169,7 +180,8 @@ impl Session {
     /// Lets those searches run that take part, as one worker, until each has left or has no allowed units.
     pub(crate) fn rounds(self, alloc: Global, runs: &[bool]) -> Result<Session, NoMemory>
         requires ledger { IsLedger (ledger_of self) }
-        requires stand { AllByRecursion (λ search. StandsBeside self.log (row_taken true search)) self.searches }
+        requires stand { AllByRecursion (λ search.
+            StandsBeside self.log (row_taken true search)) self.searches }
         requires taking { AreTaking self runs.now }
         ensures { IfOk result (λ after. Rounds one_worker TakesPart self after) }
     {

@@ -15,7 +15,8 @@ use std::alloc::Global;
 impl Session {
     /// Allows each search what it holds, or the bound where that is less.
     fn allow(&mut self, bound: Option<u64>)
-        ensures { self.new ≡ record (self.old) { searches = map (allowed bound) self.old.searches } }
+        ensures { self.new ≡
+            record (self.old) { searches = map (allowed bound) self.old.searches } }
     {
         for place in 0..self.count() {
             self.allow_at(place, bound);
@@ -35,7 +36,8 @@ impl Session {
 
     /// Moves what settled searches hold back to the purse.
     fn settle(&mut self)
-        requires { AllByRecursion (λ x. EndsSo self.old.log x.search x.number x.end) self.old.searches }
+        requires { AllByRecursion (λ x.
+            EndsSo self.old.log x.search x.number x.end) self.old.searches }
         ensures { Settle self.old self.new }
     {
         for place in 0..self.count() {

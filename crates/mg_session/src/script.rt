@@ -81,7 +81,7 @@ pub fn run_script(alloc: Global, bytes: &[u8]) -> Result<Text, SessionRefused>
     Ok(run_plan(alloc, &plan)?)
 }
 
-/// The number of the first line that grants or cancels a search by another procedure than `derive`.
+/// The number of the first line that grants or cancels a search by a procedure that isn't built.
 fn first_other(script: &[ScriptLine]) -> Option<u32>
     ensures some { IfSome result (IsFirstOther script.now) }
     ensures none { IfNone result (UseNone script.now) }
@@ -107,7 +107,7 @@ fn uses_other(line: &[Lexeme]) -> bool
     }
 }
 
-/// Whether these are the keyword, a name and another procedure than `derive`.
+/// Whether these are the keyword, a name and a procedure that isn't built.
 fn names_other(first: Lexeme, keyword: Keyword, second: Lexeme, third: Lexeme) -> bool
     ensures { IsTrue result ↔ ((first ≡ Lexeme.Keyword keyword) × (second ≡ Lexeme.Name) ×
         IsOther third) }
@@ -142,7 +142,7 @@ fn is_number(lexeme: Lexeme) -> bool
     matches!(lexeme, Lexeme::Number(_))
 }
 
-/// Whether the lexeme is the name of another procedure than `derive`.
+/// Whether the lexeme is the name of a procedure that isn't built.
 fn is_other(lexeme: Lexeme) -> bool
     ensures { IsTrue result ↔ IsOther lexeme }
 {
@@ -152,13 +152,15 @@ fn is_other(lexeme: Lexeme) -> bool
     }
 }
 
-/// Whether the keyword names another procedure than `derive`.
+/// Whether the keyword names a procedure that isn't built.
 fn is_other_name(keyword: Keyword) -> bool
     ensures { IsTrue result ↔ IsOtherName keyword }
 {
     match procedure_of(keyword) {
         None => false,
         Some(Procedure::Derive) => false,
+        Some(Procedure::Act) => false,
+        Some(Procedure::Residue) => false,
         Some(_) => true,
     }
 }

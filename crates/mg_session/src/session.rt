@@ -37,7 +37,8 @@ fn take_step(
     requires ok { StateOk plan.now 1 session }
     requires few { length session.searches < u32.MAX }
     requires counted { AreCounted session }
-    ensures { IfOk result (λ stepped. IsStepped plan.now (step_of step) session stepped.session stepped.text.items) }
+    ensures { IfOk result (λ stepped.
+        IsStepped plan.now (step_of step) session stepped.session stepped.text.items) }
 {
     match step {
         PlanStep::Fund(units) => {
@@ -79,16 +80,6 @@ fn take_step(
     }
 }
 
-/// Appends bytes to a text.
-fn push_bytes(output: &mut Text, bytes: &[u8]) -> Result<(), NoMemory>
-    ensures { OnOk result (output.new ≡ output.old ++ bytes.now) }
-{
-    for byte in bytes {
-        output.push(*byte)?;
-    }
-    Ok(())
-}
-
 /// Runs a plan, and answers what its steps print, in order. One worker makes the turns of searches, each of at most
 /// 1,024 units.
 pub fn run_plan(alloc: Global, plan: &Plan) -> Result<Text, NoMemory>
@@ -102,7 +93,7 @@ pub fn run_plan(alloc: Global, plan: &Plan) -> Result<Text, NoMemory>
     for step in steps {
         let stepped = take_step(alloc, plan, session, *step)?;
         session = stepped.session;
-        push_bytes(&mut output, stepped.text.as_slice())?;
+        output.extend_from_slice(stepped.text.as_slice())?;
     }
     Ok(output)
 }

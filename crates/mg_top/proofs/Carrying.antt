@@ -1,22 +1,20 @@
 -- Reports carry the certificates of their verdicts.
-use Rattle.std.proofs.Common.{◌≡◌, ℕ, zero, suc, ◌+◌, List, [], ◌∷◌, ◌++◌, length, take, refl, ap, sym, ◌∙◌, subst, arith}
+use Rattle.std.proofs.Common.{◌≡◌, ℕ, zero, suc, ◌+◌, List, [], ◌∷◌, ◌++◌, length, take, refl, ap, subst, arith}
 use Rattle.std.specs.Prelude.{Option, Some, None, IfSome, slice_get}
 use Rattle.std.specs.List.{AllZip, flat_map}
 use Rattle.mg_present.specs.Ask.{Inquiry}
 use Rattle.mg_questions.specs.declared.question.Question.{Question}
 use Rattle.mg_questions.specs.Asking.{IsAskOf}
 use Rattle.mg_names.specs.Plan.{Plan, PlanQuestion, plain, report}
-use Rattle.mg_names.specs.Scope.{Scope}
 use Rattle.mg_names.specs.Meaning.{ask_for}
 use Rattle.mg_names.specs.Within.{AsksFor}
 use Rattle.mg_names.proofs.Lines.{all_read}
 use Rattle.mg_names.proofs.Plans.{means_within, ask_is}
 use Rattle.mg_certs.specs.Claim.{Verdict}
 use Rattle.mg_certs.specs.Validity.{Accepted}
-use Rattle.mg_report.specs.Report.{QuestionBlock, question_text, ask_text, verdict_line, found_line, search_text, block_text, report_text}
+use Rattle.mg_report.specs.Report.{QuestionBlock, question_text, ask_text, found_line, search_text, block_text}
 use Rattle.mg_session.specs.State.{State}
 use Rattle.mg_session.specs.Output.{IsBlock, AreBlocks}
-use Rattle.mg_session.specs.StateOk.{StateOk}
 use Rattle.mg_session.specs.Built.{one_worker}
 use Rattle.mg_session.specs.Scripts.{IsOutput}
 use Rattle.mg_session.proofs.Printed.{carried}

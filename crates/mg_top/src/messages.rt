@@ -29,10 +29,10 @@ fn refusal(alloc: Global, refused: Refused) -> Result<Text, NoMemory>
 {
     let mut text = text_of(alloc, b"magnus: line ")?;
     push_number(alloc, &mut text, refused.line)?;
-    push_bytes(&mut text, b" column ")?;
+    text.extend_from_slice(b" column ")?;
     push_number(alloc, &mut text, refused.column)?;
-    push_bytes(&mut text, b": ")?;
-    push_bytes(&mut text, text_of_cause(refused.cause))?;
+    text.extend_from_slice(b": ")?;
+    text.extend_from_slice(text_of_cause(refused.cause))?;
     Ok(text)
 }
 
@@ -42,7 +42,7 @@ fn not_built(alloc: Global, line: u32) -> Result<Text, NoMemory>
 {
     let mut text = text_of(alloc, b"magnus: line ")?;
     push_number(alloc, &mut text, line)?;
-    push_bytes(&mut text, b": not built")?;
+    text.extend_from_slice(b": not built")?;
     Ok(text)
 }
 
@@ -72,22 +72,13 @@ fn text_of(alloc: Global, bytes: &[u8]) -> Result<Text, NoMemory>
     ensures { IfOk result (λ text. text ≡ bytes.now) }
 {
     let mut text = Text::new(alloc);
-    push_bytes(&mut text, bytes)?;
+    text.extend_from_slice(bytes)?;
     Ok(text)
-}
-
-fn push_bytes(text: &mut Text, bytes: &[u8]) -> Result<(), NoMemory>
-    ensures { OnOk result (text.new ≡ text.old ++ bytes.now) }
-{
-    for byte in bytes {
-        text.push(*byte)?;
-    }
-    Ok(())
 }
 
 fn push_number(alloc: Global, text: &mut Text, number: u32) -> Result<(), NoMemory>
     ensures { OnOk result (text.new ≡ text.old ++ decimal number) }
 {
     let digits = number.to_string(alloc)?;
-    push_bytes(text, digits.as_bytes())
+    text.extend_from_slice(digits.as_bytes())
 }

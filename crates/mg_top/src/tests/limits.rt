@@ -40,16 +40,7 @@ fn there_are_64_searches_by_completion(rt: HostRuntime) -> Result<(), Fail> {
 #[test]
 fn there_are_2048_searches(rt: HostRuntime) -> Result<(), Fail> {
     let mut script = granted(&rt, 1024, &["derive", "act"])?;
-    assert!(rt;
-        ends(
-            &rt,
-            script.as_slice(),
-            &[],
-            &[],
-            Status::NotBuilt { line: 2050 },
-            b""
-        )?
-    );
+    assert!(rt; ends(&rt, script.as_slice(), &[], &[], Status::Done, b"")?);
     script.extend_from_slice(b"grant q0 residue 0\n")?;
     let refused = refused_at(3074, 10, Cause::TooMany);
     assert!(rt; ends(&rt, script.as_slice(), &[], &[], refused, b"")?);

@@ -444,16 +444,16 @@ const TOO_LONG_WORD: &[u8] = b"group G = < a | a^2 >
 ask q : a^10001 = 1 in G
 ";
 
-const BY_RESIDUES: &[u8] = b"group G = < a | a^2 >
+const BY_RULES: &[u8] = b"group G = < a | a^2 >
 ask q : a = 1 in G
 fund 5
-grant q derive 1
-grant q residue 3
+grant q residue 1
+grant q rewrite 3
 run
 ";
 
 /// Whether a script prints this.
-fn prints<R: AllocGlobal + Threads + Wait + Sync>(
+pub(super) fn prints<R: AllocGlobal + Threads + Wait + Sync>(
     rt: &R,
     script: &[u8],
     output: &[u8],
@@ -518,7 +518,7 @@ fn searches_are_resumed(rt: HostRuntime) -> Result<(), Fail> {
 }
 
 /// Whether a script ends with this status, and nothing is written.
-fn fails<R: AllocGlobal + Threads + Wait + Sync>(
+pub(super) fn fails<R: AllocGlobal + Threads + Wait + Sync>(
     rt: &R,
     script: &[u8],
     status: Status,
@@ -530,7 +530,7 @@ fn fails<R: AllocGlobal + Threads + Wait + Sync>(
 fn scripts_are_refused_at_their_places(rt: HostRuntime) -> Result<(), Fail> {
     assert!(rt; fails(&rt, UNKNOWN, refused_at(2, 9, Cause::UnknownGenerator))?);
     assert!(rt; fails(&rt, TOO_LONG_WORD, refused_at(2, 11, Cause::WordTooLong))?);
-    assert!(rt; fails(&rt, BY_RESIDUES, Status::NotBuilt { line: 5 })?);
+    assert!(rt; fails(&rt, BY_RULES, Status::NotBuilt { line: 5 })?);
     Ok(())
 }
 

@@ -22,8 +22,8 @@ take_step-requires c = record {
 
 pub loop-step-preserved : goal.loop-step-preserved
 loop-step-preserved c =
-    going_next c.args.plan.now c.as_slice-steps.result.now c.loop-step.step-index c.loop-step.session c.loop-step.output c.loop-step.invariant _ c.in_ok-stepped.stepped.session c.in_ok-stepped.stepped.text.items c.push_bytes.new.output
-    c.requires.plan c.loop-step-test.true c.in_ok-stepped.ensures (c.in_ok-push_bytes.ensures ∙ ap (λ text. c.loop-step.output ++ text) c.as_slice.ensures.value)
+    going_next c.args.plan.now c.as_slice-steps.result.now c.loop-step.step-index c.loop-step.session c.loop-step.output c.loop-step.invariant _ c.in_ok-stepped.stepped.session c.in_ok-stepped.stepped.text.items c.extend_from_slice.new.self
+    c.requires.plan c.loop-step-test.true c.in_ok-stepped.ensures (c.in_ok-extend_from_slice.ensures.ok ∙ ap (λ text. c.loop-step.output ++ text) c.as_slice.ensures.value)
 
 pub returns : goal.returns
 returns c = going_done _ _ _ _ _ c.loop-step.invariant c.loop-step-test.false

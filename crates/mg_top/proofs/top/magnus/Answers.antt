@@ -1,4 +1,4 @@
-use Rattle.std.proofs.Common.{◌≡◌, ℕ, ◌+◌, ◌≤◌, List, length, drop, refl, ap, subst, ◌∙◌}
+use Rattle.std.proofs.Common.{◌≡◌, ℕ, ◌+◌, ◌≤◌, List, length, drop, ap, subst, ◌∙◌}
 use Rattle.std.specs.Prelude.{Err, Some}
 use Rattle.mg_session.specs.Scripts.{IsRefused}
 use Rattle.mg_session.specs.Scripts as session
