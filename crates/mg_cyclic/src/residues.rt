@@ -47,7 +47,8 @@ impl Residues {
     /// The map that takes so many generators to 0 modulo 2, which has number 1.
     pub fn all_zero(alloc: Global, generators: u32) -> Result<Residues, NoMemory>
         requires { generators ≤ MOST_GENERATORS }
-        ensures { IfOk result (λ map. map ≡ record { modulus = 2; residues = replicate generators 0 }) }
+        ensures { IfOk result (λ map.
+            map ≡ record { modulus = 2; residues = replicate generators 0 }) }
     {
         let zeros = [0; MOST_GENERATORS as usize];
         Residues::from_images(alloc, 2, &zeros[..generators as usize])

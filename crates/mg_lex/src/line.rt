@@ -61,7 +61,8 @@ pub fn lex(alloc: Global, line: &[u8], number: u32) -> Result<Lexed, NoMemory>
     ensures refused { IfOk result (λ l. IfSome l.fault (λ f. IsRefusal line.now number f.refused)) }
     ensures before { IfOk result (λ l. IfSome l.fault (λ f.
         AreTokensBefore line.now (place_of f.refused) l.tokens)) }
-    ensures token { IfOk result (λ l. IfSome l.fault (λ f. IsTokenAt line.now (place_of f.refused) f.token)) }
+    ensures token { IfOk result (λ l. IfSome l.fault (λ f.
+        IsTokenAt line.now (place_of f.refused) f.token)) }
 {
     let mut scanner = Scanner::new(line);
     let mut tokens = Tokens::new(alloc);

@@ -70,7 +70,8 @@ impl<'a> Home<'a> {
 
     /// A name that is no generator shows a cause.
     pub(crate) fn check_generator(&self, name: Name, found: &mut Found)
-        ensures { Gets (not_a_letter self.now.names.now self.now.generators.now (named_of name.entry))
+        ensures { Gets
+            (not_a_letter self.now.names.now self.now.generators.now (named_of name.entry))
             found.old found.new }
     {
         if self.generator(name.text).is_none() {

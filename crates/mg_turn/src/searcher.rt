@@ -41,7 +41,8 @@ pub trait Searcher<R: Record> {
         requires few { length facts.records ≤ searching.wants self.old units }
         requires of_group { AllByRecursion
             (λ r. R.recording.model_of r ≡ Some (searching.group self.old)) facts.records }
-        ensures turns { IfOk result (λ outcome. searching.turns self.old units facts outcome self.new) }
+        ensures turns { IfOk result (λ outcome.
+            searching.turns self.old units facts outcome self.new) }
         ensures key { OnOk result (searching.key self.new ≡ searching.key self.old) }
         ensures group { OnOk result (searching.group self.new ≡ searching.group self.old) }
         ensures stopped { IfOk result (λ outcome. StopsBy outcome.end (T.known stop.new)) };
