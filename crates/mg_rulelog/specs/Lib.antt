@@ -1,0 +1,4 @@
+pub mod Rule
+pub mod Moves
+pub mod Acceptance
+pub mod Tape
