@@ -1,1 +1,4 @@
+mod Firsts
+mod Normals
+mod Summed
 pub mod Truth

@@ -5,14 +5,16 @@ use Rattle.mg_present.specs.Presentation.{Group}
 use Rattle.mg_present.specs.Ask.{Inquiry}
 use Rattle.mg_present.specs.Same.{Holds}
 use Rattle.mg_derive.specs.Acceptance.{IsAccepted}
+use Rattle.mg_rulelog.specs.Acceptance as by_log
 use Rattle.mg_action.specs.Action as by_action
 use Rattle.mg_cyclic.specs.Map as by_residues
 use Rattle.mg_rules.specs.Complete as by_rules
-use Rattle.mg_certs.specs.Claim.{derivation, Model, action, residues, complete, Verdict, affirmed, refuted, Fact, settled, model_of}
+use Rattle.mg_certs.specs.Claim.{derivation, rulelog, Model, action, residues, complete, Verdict, affirmed, refuted, Fact, settled, model_of}
 
 -- the certificate of a verdict is accepted for the Ask
 abbrev pub Accepted : Inquiry → Verdict → Type 0
 Accepted ask (affirmed (derivation text)) = IsAccepted ask text
+Accepted ask (affirmed (rulelog log)) = by_log.IsAccepted ask log
 Accepted ask (refuted goal (action perms)) = by_action.Refutes ask goal perms
 Accepted ask (refuted goal (residues map)) = by_residues.Refutes ask goal map
 Accepted ask (refuted goal (complete rules)) = by_rules.Refutes ask goal rules

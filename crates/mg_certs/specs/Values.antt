@@ -2,10 +2,10 @@
 use Rattle.std.specs.Prelude.{◌≡◌}
 use Rattle.mg_present.specs.Presentation.{Group}
 use Rattle.mg_present.specs.Ask.{Inquiry}
-use Rattle.mg_certs.specs.Claim.{Affirmation, derivation, Model, action, residues, complete, Verdict, affirmed, refuted, Fact, settled, model_of}
+use Rattle.mg_certs.specs.Claim.{Affirmation, derivation, rulelog, Model, action, residues, complete, Verdict, affirmed, refuted, Fact, settled, model_of}
 use Rattle.mg_certs.specs.Validity.{IsValid}
 use Rattle.mg_certs.specs.declared.verdict.Yes.{Yes}
-use Rattle.mg_certs.specs.declared.verdict.Yes.TheVariants.{Derivation}
+use Rattle.mg_certs.specs.declared.verdict.Yes.TheVariants.{Derivation, RuleLog}
 use Rattle.mg_certs.specs.declared.verdict.No.{No}
 use Rattle.mg_certs.specs.declared.verdict.Model.{Model as Shown}
 use Rattle.mg_certs.specs.declared.verdict.Model.TheVariants.{Action, Residues, Complete}
@@ -25,6 +25,7 @@ use Rattle.mg_certs.specs.declared.claim.ModelRefused.TheVariants as model_refus
 -- a certificate, without the spare room of its text
 abbrev pub affirmation_of : Yes → Affirmation
 affirmation_of (Derivation text) = derivation text.symbols
+affirmation_of (RuleLog log) = rulelog log
 
 -- what a model in code is
 abbrev pub model_value : Shown → Model

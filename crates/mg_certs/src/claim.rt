@@ -1,7 +1,8 @@
 //! Claims: what code can put on record about groups.
 ghost use Rattle.std.specs.Prelude.{◌≡◌, IfOk, IfErr};
-ghost use Rattle.mg_certs.specs.Validity.{IsValid, recording};
-ghost use Rattle.mg_certs.specs.Values.{fact_seen, claimed_by, refuted_by, modelled_by, IsRefused, IsNoRefused, IsModelRefused};
+ghost use Rattle.mg_certs.specs.Claim.{settled, model_of};
+ghost use Rattle.mg_certs.specs.Validity.{Accepted, AcceptedModel, IsValid, recording};
+ghost use Rattle.mg_certs.specs.Values.{model_value, verdict_of, fact_seen, claimed_by, refuted_by, modelled_by, IsRefused, IsNoRefused, IsModelRefused};
 ghost use Rattle.mg_certs.specs.Records.{settles_or_models};
 ghost use Rattle.mg_present.proofs.Exact.{ask_exact, group_exact};
 
@@ -141,6 +142,28 @@ pub fn claim_model(
 }
 
 impl Claim {
+    /// Claims an answer whose certificate is accepted.
+    pub fn of_verdict(ask: Ask, verdict: Verdict) -> Claim
+        requires accepted { Accepted ask (verdict_of verdict) }
+        ensures claimed { result ≡ settled ask (verdict_of verdict) }
+        ensures valid { IsValid result }
+    {
+        Claim {
+            body: Body::Settled(ask, verdict),
+        }
+    }
+
+    /// Claims a model of a group.
+    pub fn of_model(group: Presentation, model: verdict::Model) -> Claim
+        requires accepted { AcceptedModel group (model_value model) }
+        ensures claimed { result ≡ model_of group (model_value model) }
+        ensures valid { IsValid result }
+    {
+        Claim {
+            body: Body::ModelOf(group, model),
+        }
+    }
+
     /// Lends what is claimed.
     pub fn view(&self) -> ClaimView<'_>
         ensures fact { fact_seen result ≡ self.now }

@@ -3,8 +3,12 @@
 //! residues or a complete rewriting system.
 #![tactic(auto)]
 
+mod acting;
 mod claim;
+mod descending;
 mod laws;
+mod refuting;
+mod summing;
 mod verdict;
 
 pub use claim::{

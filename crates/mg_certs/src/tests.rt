@@ -9,8 +9,9 @@ use mg_action::Action;
 use mg_core::Record;
 use mg_cyclic::Residues;
 use mg_derive::{Derivation, Symbol};
-use mg_fixtures::word;
+use mg_fixtures::{ask as asked_so, word};
 use mg_present::{Ask, MOST_RELATOR_LETTERS, Presentation};
+use mg_rulelog::{GoalMoves, LoggedRule, LoggedRules, Move, Moves, RuleLog};
 use mg_rules::{RulePair, RulePairs, Rules};
 use mg_words::{Letter, Word, Words, is_over, is_reduced};
 use std::alloc::{AllocError, Global};
@@ -95,7 +96,9 @@ fn comes_back(alloc: Global, symbols: &[Symbol]) -> Result<bool, NoMemory> {
     let Err(YesRefused::NotAccepted(asked, certificate)) = claimed(alloc, symbols) else {
         return Ok(false);
     };
-    let Yes::Derivation(text) = &certificate;
+    let Yes::Derivation(text) = &certificate else {
+        return Ok(false);
+    };
     Ok(asked == ask(alloc)? && text.symbols() == symbols)
 }
 
@@ -193,5 +196,100 @@ fn a_complete_system_refutes_a_goal(rt: HostRuntime) -> Result<(), Fail> {
     assert!(rt; is_refuted(alloc, &[A])?);
     assert!(rt; !is_refuted(alloc, &[A, A])?);
     assert!(rt; is_model(alloc, system(alloc)?)?);
+    Ok(())
+}
+
+const OUT_RELATOR: Move = Move::OutRelator {
+    relator: 1,
+    inverse: false,
+    place: 0,
+};
+
+// The list of this move alone.
+fn one_move(alloc: Global, step: Move) -> Result<Moves, NoMemory> {
+    let mut moves = Moves::new(alloc);
+    moves.push(step)?;
+    Ok(moves)
+}
+
+// The log of the rule that takes a^2 to the empty word, with this move for the goal.
+fn log(alloc: Global, step: Move) -> Result<Yes, NoMemory> {
+    let mut rules = LoggedRules::new(alloc);
+    rules.push(LoggedRule {
+        left: word(alloc, "aa"),
+        right: word(alloc, "1"),
+        moves: one_move(alloc, OUT_RELATOR)?,
+    })?;
+    let mut goals = GoalMoves::new(alloc);
+    goals.push(one_move(alloc, step)?)?;
+    Ok(Yes::RuleLog(RuleLog { rules, goals }))
+}
+
+// Whether it is claimed by the log that a^2 is one.
+fn is_logged(alloc: Global, step: Move) -> Result<bool, NoMemory> {
+    let certificate = log(alloc, step)?;
+    Ok(claim_yes(alloc, ask(alloc)?, certificate).is_ok())
+}
+
+#[test]
+fn a_rule_shows_that_its_left_side_is_one(rt: HostRuntime) -> Result<(), Fail> {
+    let alloc = rt.alloc();
+    assert!(rt; is_logged(alloc, Move::By { rule: 1, place: 0 })?);
+    assert!(rt; !is_logged(alloc, OUT_RELATOR)?);
+    Ok(())
+}
+
+// The first goal that the model refutes where a^2, a and a^-1 are asked to be one.
+fn first_of_three(alloc: Global, model: &Model) -> Result<Option<u32>, NoMemory> {
+    let Some(ask) = asked_so(alloc, "1 aa | | aa a A") else {
+        return Err(AllocError);
+    };
+    if !model.is_accepted(alloc, ask.group())? {
+        return Err(AllocError);
+    }
+    model.first_refuted(alloc, &ask)
+}
+
+// Whether the second goal is the first that the model refutes.
+fn names_the_second(alloc: Global, model: &Model) -> Result<bool, NoMemory> {
+    match first_of_three(alloc, model)? {
+        Some(goal) => Ok(goal == 1),
+        None => Ok(false),
+    }
+}
+
+#[test]
+fn the_first_refuted_goal_is_named(rt: HostRuntime) -> Result<(), Fail> {
+    let alloc = rt.alloc();
+    let action = action(alloc, 3)?;
+    assert!(rt; names_the_second(alloc, &action)?);
+    let map = map(alloc, 2, 1)?;
+    assert!(rt; names_the_second(alloc, &map)?);
+    Ok(())
+}
+
+#[test]
+fn a_system_names_the_first_goal(rt: HostRuntime) -> Result<(), Fail> {
+    let alloc = rt.alloc();
+    let system = system(alloc)?;
+    assert!(rt; names_the_second(alloc, &system)?);
+    Ok(())
+}
+
+// Whether the answer by the model is claimed without another test.
+fn are_claimed(alloc: Global, model: Model) -> Result<bool, NoMemory> {
+    let ask = asked(alloc, &[A])?;
+    let no = No { goal: 0, model };
+    if !no.is_accepted(alloc, &ask)? {
+        return Ok(false);
+    }
+    let claim = Claim::of_verdict(ask, Verdict::No(no));
+    Ok(claim.settles() == Some(&asked(alloc, &[A])?))
+}
+
+#[test]
+fn what_is_accepted_is_claimed(rt: HostRuntime) -> Result<(), Fail> {
+    let alloc = rt.alloc();
+    assert!(rt; are_claimed(alloc, map(alloc, 2, 1)?)?);
     Ok(())
 }

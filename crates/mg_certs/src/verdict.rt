@@ -9,6 +9,7 @@ use mg_core::NoMemory;
 use mg_cyclic::{Residues, is_map};
 use mg_derive::{Buffers, Derivation, accepts};
 use mg_present::{Ask, Presentation};
+use mg_rulelog::RuleLog;
 use mg_rules::{Rules, is_complete_for};
 use std::alloc::Global;
 
@@ -17,6 +18,8 @@ use std::alloc::Global;
 pub enum Yes {
     /// A derivation with one part for each goal.
     Derivation(Derivation),
+    /// A log of rules that rewrite each goal to the empty word.
+    RuleLog(RuleLog),
 }
 
 impl Yes {
@@ -30,6 +33,7 @@ impl Yes {
                 let mut buffers = Buffers::for_text(alloc, ask, text)?;
                 Ok(accepts(ask, text, &mut buffers))
             }
+            Yes::RuleLog(log) => mg_rulelog::accepts(alloc, ask, log),
         }
     }
 
@@ -39,6 +43,7 @@ impl Yes {
     {
         match self {
             Yes::Derivation(text) => Ok(Yes::Derivation(text.copy(alloc)?)),
+            Yes::RuleLog(log) => Ok(Yes::RuleLog(log.copy(alloc)?)),
         }
     }
 }

@@ -2,8 +2,10 @@
 //! appends its text to the bytes handed in; where memory is wanting, these stay as they were.
 #![tactic(auto)]
 
+mod logs;
 mod models;
 mod pieces;
+mod signs;
 mod verdicts;
 mod words;
 

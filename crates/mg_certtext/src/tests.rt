@@ -5,6 +5,7 @@ use mg_cyclic::Residues;
 use mg_derive::{Derivation, Symbol};
 use mg_fixtures::word;
 use mg_lists::List;
+use mg_rulelog::{GoalMoves, LoggedRule, LoggedRules, Move, RuleLog, copy_moves};
 use mg_rules::{RulePair, Rules};
 use mg_words::{Letter, Word};
 use std::alloc::{AllocError, Global};
@@ -211,5 +212,97 @@ fn pieces_stand_behind_spaces(rt: HostRuntime) -> Result<(), Fail> {
     push_count(rt.alloc(), &mut out, b"purse", 889)?;
     push_piece(&mut out, b"|")?;
     assert_eq!(rt; out.as_slice(), b"funded 1000 purse 889 |".as_slice());
+    Ok(())
+}
+
+/// The rule with these sides and moves.
+fn shown(alloc: Global, left: &str, right: &str, moves: &[Move]) -> Result<LoggedRule, NoMemory> {
+    Ok(LoggedRule {
+        left: word(alloc, left),
+        right: word(alloc, right),
+        moves: copy_moves(alloc, moves)?,
+    })
+}
+
+/// Whether this is the text of YES by the rules, with these moves for the one goal.
+fn log_prints(
+    alloc: Global,
+    rules: LoggedRules,
+    moves: &[Move],
+    text: &[u8],
+) -> Result<bool, NoMemory> {
+    let names = a_and_b(alloc)?;
+    let mut goals = GoalMoves::new(alloc);
+    goals.push(copy_moves(alloc, moves)?)?;
+    let verdict = Verdict::Yes(Yes::RuleLog(RuleLog { rules, goals }));
+    let out = print(alloc, &verdict, names.as_slice())?;
+    Ok(out.as_slice() == text)
+}
+
+const OUT_A: Move = Move::OutPair {
+    letter: A,
+    place: 0,
+};
+
+const OUT_A_BACK: Move = Move::OutPair {
+    letter: A_BACK,
+    place: 0,
+};
+
+const OUT_RELATOR: Move = Move::OutRelator {
+    relator: 1,
+    inverse: false,
+    place: 0,
+};
+
+/// The pairs of `a`, and the relator `a^2`.
+fn three_rules(alloc: Global) -> Result<LoggedRules, NoMemory> {
+    let mut rules = LoggedRules::new(alloc);
+    rules.push(shown(alloc, "aA", "1", &[OUT_A])?)?;
+    rules.push(shown(alloc, "Aa", "1", &[OUT_A_BACK])?)?;
+    rules.push(shown(alloc, "aa", "1", &[OUT_RELATOR])?)?;
+    Ok(rules)
+}
+
+#[test]
+fn a_goal_by_a_rule_twice(rt: HostRuntime) -> Result<(), Fail> {
+    let alloc = rt.alloc();
+    let by = Move::By { rule: 3, place: 0 };
+    let text =
+        b"yes rulelog rule a a^-1 -> 1 : out a 0 ; rule a^-1 a -> 1 : out a^-1 0 ; rule a^2 -> 1 : out r1 0 ; goal by 3 0 , by 3 0 ;";
+    assert!(rt; log_prints(alloc, three_rules(alloc)?, &[by, by], text)?);
+    Ok(())
+}
+
+#[test]
+fn a_rule_backwards(rt: HostRuntime) -> Result<(), Fail> {
+    let alloc = rt.alloc();
+    let moves = [
+        Move::Back { rule: 3, place: 0 },
+        Move::By { rule: 1, place: 1 },
+    ];
+    let mut rules = LoggedRules::new(alloc);
+    rules.push(shown(alloc, "A", "a", &moves)?)?;
+    let text = b"yes rulelog rule a^-1 -> a : back 3 0 , by 1 1 ; goal ;";
+    assert!(rt; log_prints(alloc, rules, &[], text)?);
+    Ok(())
+}
+
+#[test]
+fn pieces_are_put_in(rt: HostRuntime) -> Result<(), Fail> {
+    let alloc = rt.alloc();
+    let moves = [
+        Move::InPair {
+            letter: B,
+            place: 0,
+        },
+        Move::InRelator {
+            relator: 3,
+            inverse: true,
+            place: 12,
+        },
+    ];
+    let text = b"yes rulelog goal in b 0 , in r3^-1 12 ;";
+    assert!(rt; log_prints(alloc, LoggedRules::new(alloc), &moves, text)?);
     Ok(())
 }

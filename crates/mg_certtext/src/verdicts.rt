@@ -1,42 +1,19 @@
 //! The texts of verdicts.
 ghost use Rattle.std.specs.Prelude.{◌≡◌, [], ◌∷◌, ◌++◌, IfOk, OnOk};
-ghost use Rattle.std.specs.Fmt.{decimal};
 ghost use Rattle.mg_certs.specs.Claim.{affirmed, derivation};
 ghost use Rattle.mg_certs.specs.Values.{model_value, verdict_of};
 ghost use Rattle.mg_certtext.specs.Pieces.{spaced};
-ghost use Rattle.mg_certtext.specs.Verdicts.{sign, symbol_piece, no_text, verdict_text};
+ghost use Rattle.mg_certtext.specs.Verdicts.{symbol_piece, no_text, verdict_text};
 
+use crate::logs::print_log;
 use crate::models::push_model;
-use crate::pieces::{push_bytes, push_count, push_decimal, push_piece};
+use crate::pieces::{push_bytes, push_count, push_piece};
+use crate::signs::push_sign;
 use crate::words::push_run;
 use mg_certs::{No, Verdict, Yes};
 use mg_derive::{Derivation, Symbol};
 use mg_lists::{List, NoMemory};
 use std::alloc::Global;
-
-fn sign_bytes(inverse: bool) -> &'static [u8]
-    ensures { result.now ≡ sign inverse }
-{
-    if inverse { b"^-1" } else { b"" }
-}
-
-/// Pushes a number between two texts as a piece.
-fn push_sign(
-    alloc: Global,
-    out: &mut Vec<u8>,
-    before: &[u8],
-    place: u32,
-    after: &[u8],
-    inverse: bool,
-) -> Result<(), NoMemory>
-    ensures { OnOk result (out.new.items ≡ out.old.items
-        ++ spaced ((before.now ++ decimal place ++ after.now ++ sign inverse) ∷ [])) }
-{
-    push_piece(out, before)?;
-    push_decimal(alloc, out, place as u128)?;
-    push_bytes(out, after)?;
-    push_bytes(out, sign_bytes(inverse))
-}
 
 /// Pushes a symbol of a derivation.
 fn push_symbol(
@@ -92,6 +69,7 @@ pub fn print(alloc: Global, verdict: &Verdict, names: &[List<u8>]) -> Result<Vec
 {
     match verdict {
         Verdict::Yes(Yes::Derivation(text)) => print_derivation(alloc, text, names),
+        Verdict::Yes(Yes::RuleLog(log)) => print_log(alloc, log, names),
         Verdict::No(no) => print_no(alloc, no, names),
     }
 }

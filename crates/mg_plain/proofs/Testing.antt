@@ -5,7 +5,8 @@ use Rattle.mg_numbers.specs.declared.advance.Advance.TheVariants.{More, Found}
 use Rattle.mg_action.specs.Search as by_action
 use Rattle.mg_cyclic.specs.Search as by_residues
 use Rattle.mg_certs.specs.Claim.{action, residues, Fact}
-use Rattle.mg_plain.specs.Plain.{Plain, no_and_model, IsPlain, PlainTurn, PublishesHere, SomeAccepted}
+use Rattle.mg_certs.specs.Refuting.{no_and_model}
+use Rattle.mg_plain.specs.Plain.{Plain, IsPlain, PlainTurn, PublishesHere, SomeAccepted}
 use Rattle.mg_plain.specs.Objects.{seen, HasFound, Advances}
 use Rattle.mg_plain.specs.declared.objects.Objects.{Objects}
 use Rattle.mg_plain.specs.declared.objects.Objects.TheVariants.{Texts, Actions, Maps}

@@ -16,8 +16,9 @@ use Rattle.mg_derive.specs.declared.symbol.Symbol.{Symbol}
 use Rattle.mg_derive.specs.Acceptance.{IsAccepted, IsNumbered, AcceptedAt}
 use Rattle.mg_action.specs.Number as by_action
 use Rattle.mg_cyclic.specs.Number as by_residues
-use Rattle.mg_certs.specs.Claim.{derivation, Model, action, residues, affirmed, refuted, Fact, settled, model_of}
-use Rattle.mg_certs.specs.Validity.{Accepted, IsValid, key_of}
+use Rattle.mg_certs.specs.Claim.{derivation, action, residues, affirmed, Fact, settled}
+use Rattle.mg_certs.specs.Refuting.{PublishesNo}
+use Rattle.mg_certs.specs.Validity.{IsValid, key_of}
 
 -- a search that tests the objects of its procedure in the order of their numbers: its cursor is the number of
 -- the last one tested
@@ -38,17 +39,6 @@ AcceptedBy _ ask n = ⊥
 -- some number above `low` and up to `high` has its object accepted
 abbrev pub SomeAccepted : Procedure → Inquiry → ℕ → ℕ → Type 0
 SomeAccepted procedure ask low high = (n : ℕ) × (low < n) × (n ≤ high) × AcceptedBy procedure ask n
-
--- the Ask settled by NO with this goal and model, and behind that the model as one of the group of the Ask
-abbrev pub no_and_model : Inquiry → ℕ → Model → List Fact
-no_and_model ask goal model = settled ask (refuted goal model) ∷ model_of ask.group model ∷ []
-
--- what a model publishes that refutes a goal: NO with the first goal that it refutes, and the model
-pub record PublishesNo (ask : Inquiry) (model : Model) (records : List Fact) : Type 0 where
-  pub goal : ℕ
-  pub refutes : Accepted ask (refuted goal model)
-  pub least : (k : ℕ) → k < goal → Accepted ask (refuted k model) → ⊥
-  pub records_are : records ≡ no_and_model ask goal model
 
 -- what a search publishes where the object with this number is accepted: the Ask settled by that object, and behind that
 -- the object where it is a model

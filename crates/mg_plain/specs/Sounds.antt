@@ -10,8 +10,9 @@ use Rattle.mg_words.specs.declared.procedure.Procedure.{Procedure}
 use Rattle.mg_words.specs.declared.procedure.Procedure.TheVariants.{Derive, Act, Residue, Rewrite, Cosets, Nielsen, Recall}
 use Rattle.mg_present.specs.Ask.{Inquiry}
 use Rattle.mg_certs.specs.Claim.{Fact, Model, action, residues}
+use Rattle.mg_certs.specs.Refuting.{PublishesNo}
 use Rattle.mg_certs.specs.Validity.{recording, IsValid, AcceptedModel}
-use Rattle.mg_plain.specs.Plain.{Plain, PublishesNo, Publishes, PlainEnd, searching}
+use Rattle.mg_plain.specs.Plain.{Plain, Publishes, PlainEnd, searching}
 
 -- NO and the model behind it are valid, and NO settles the Ask
 no_valid : (ask : Inquiry) (model : Model) (records : List Fact) → PublishesNo ask model records → AcceptedModel ask.group model → AllByRecursion IsValid records

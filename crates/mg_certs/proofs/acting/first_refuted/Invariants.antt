@@ -1,0 +1,10 @@
+use Rattle.std.proofs.Common.{◌≡◌, length}
+use Rattle.mg_certs.specs.Claim.{action}
+use Rattle.mg_certs.proofs.Firsts.{RefutesNoneBelow}
+use Rattle.mg_certs.proofs.acting.first_refuted.Given as goal
+
+abbrev pub invariant-loop-goal : goal.invariant-loop-goal
+invariant-loop-goal l = record {
+  all : l.goal-end ≡ length l.ask.goals;
+  none : RefutesNoneBelow l.ask (action l.action) l.goal;
+}
