@@ -1,1 +1,4 @@
 pub mod Search
+pub mod Ends
+pub mod Kinds
+pub mod Sounds

@@ -4,10 +4,18 @@ use Rattle.mg_core.specs.declared.entries.Facts.{Facts}
 use Rattle.mg_turn.specs.declared.outcome.Outcome.{Outcome}
 use Rattle.mg_turn.specs.Turn.{Searching}
 use Rattle.mg_words.specs.declared.procedure.Procedure.{Procedure}
+use Rattle.mg_words.specs.declared.procedure.Procedure.TheVariants.{Derive, Act, Residue}
 use Rattle.mg_present.specs.Presentation.{Group}
 use Rattle.mg_present.specs.Ask.{Inquiry}
 use Rattle.mg_certs.specs.Claim.{Fact}
 use Rattle.mg_plain.specs.Plain.{Plain, PlainTurn, IsStarted, IsSearched, HasPublished as PlainPublished}
+
+-- the procedures that are built: there are searches by them
+abbrev pub IsBuilt : Procedure → Type 0
+IsBuilt Derive = Unit {0}
+IsBuilt Act = Unit {0}
+IsBuilt Residue = Unit {0}
+IsBuilt _ = ⊥
 
 -- any search: so far those that test numbered objects
 pub data Search : Type 0 where
@@ -28,6 +36,10 @@ is_open (plain search) = search.is_open
 -- a plain search wants no models
 abbrev pub models_wanted : Search → ℕ → ℕ
 models_wanted (plain search) units = 0
+
+-- whether a search reads models that others publish
+abbrev pub Reads : Search → Type 0
+Reads (plain search) = ⊥
 
 -- the turns that a search may make
 abbrev pub SearchTurn : Search → ℕ → Facts Fact → Outcome Fact → Search → Type 0

@@ -1,16 +1,17 @@
 -- What an event keeps of how the searches of a run stand.
-use Rattle.std.proofs.Common.{◌≡◌, ◌≢◌, ℕ, suc, ◌+◌, ◌≤◌, ◌==◌, ◌↔◌, if◌then◌else◌, Bool, true, false, cond, List, [], ◌∷◌, ◌++◌, length, length-append, refl, ap, sym, ◌∙◌, subst, arith, append-nil, add-zero}
-use Rattle.std.specs.Prelude.{Some, Contains, nat_le, max, take}
+use Rattle.std.proofs.Common.{◌≡◌, ◌≢◌, ℕ, zero, suc, ◌+◌, ◌<◌, ◌≤◌, ◌==◌, ◌↔◌, if◌then◌else◌, Bool, true, false, cond, List, [], ◌∷◌, ◌++◌, length, length-append, refl, ap, sym, ◌∙◌, subst, arith, append-nil, add-zero}
+use Rattle.std.specs.Prelude.{Some, IsSome, Contains, slice_index_or, nat_le, max, take}
 use Rattle.std.specs.List.{AllByRecursion}
 use Rattle.std.proofs.lemmas.Bool.Decides.{nat_tests}
 use Rattle.mg_core.specs.declared.entries.Entry.{Entry}
 use Rattle.mg_core.specs.declared.entries.Facts.{Facts}
 use Rattle.mg_core.specs.Log.{facts_of, Settled, KeeperOf, Handed, last_number}
 use Rattle.mg_core.proofs.Logs.{facts_of-append}
+use Rattle.mg_words.specs.declared.procedure.Procedure.{Procedure}
 use Rattle.mg_turn.specs.declared.outcome.Outcome.{Outcome}
 use Rattle.mg_turn.specs.declared.outcome.TurnEnd.{TurnEnd}
 use Rattle.mg_turn.specs.declared.outcome.TurnEnd.TheVariants.{More, Found, Closed, Idle, Stopped, Full}
-use Rattle.mg_turn.specs.Turn.{IsSound, EndFits, Settles, records_of, goes_on, is_stopped}
+use Rattle.mg_turn.specs.Turn.{IsSound, EndFits, AreModels, Settles, records_of, goes_on, is_stopped}
 use Rattle.mg_workers.specs.declared.held.End.{End}
 use Rattle.mg_workers.specs.declared.held.End.TheVariants as ends
 use Rattle.mg_workers.specs.Run.{Row, Running, Event, entry_of, row_after, end_after}
@@ -20,13 +21,14 @@ use Rattle.mg_workers.proofs.Counts.{units_of-append, others_apart}
 use Rattle.mg_workers.proofs.Events.{event_sound}
 use Rattle.mg_present.specs.Ask.{Inquiry}
 use Rattle.mg_certs.specs.Claim.{Fact}
-use Rattle.mg_certs.specs.Validity.{recording, key_of}
-use Rattle.mg_plain.specs.Plain.{Plain, PlainEnd, PlainTurn}
-use Rattle.mg_plain.proofs.Turns.{turn_publishes}
-use Rattle.mg_search.specs.Search.{Search, plain, searching, ask_of, is_open, models_wanted, SearchTurn, InRow, HasPublished}
-use Rattle.mg_search.proofs.Turns.{sound, keeps_row}
+use Rattle.mg_certs.specs.Claim as claims
+use Rattle.mg_certs.specs.Validity.{recording, key_of, group_of}
+use Rattle.mg_search.specs.Search.{Search, searching, ask_of, procedure_of, is_open, models_wanted, SearchTurn, HasPublished}
+use Rattle.mg_search.specs.Ends.{MayEnd}
+use Rattle.mg_search.specs.Sounds.{sound}
+use Rattle.mg_search.proofs.Turns.{keeps_procedure, keeps_row, turn_may_end, turn_publishes, none_wanted}
 use Rattle.mg_session.specs.Run.{KeepsVerdict}
-use Rattle.mg_session.specs.StateOk.{IsOpenAt, EndsSo, StandsBeside}
+use Rattle.mg_session.specs.StateOk.{IsOpenAt, CanEnd, HasVerdict, EndsSo, StandsBeside}
 use Rattle.mg_session.proofs.Lists.{all-set}
 use Rattle.mg_session.proofs.Keepers.{Brings, IsKeeperOf, is_new, is_old, keeper_grows, keeper_back}
 use Rattle.mg_session.proofs.Settling.{settled_grows, kept_settles}
@@ -89,29 +91,45 @@ module _ (log : List (Entry Fact)) (entry : Entry Fact) where
     read = read_grows row.read h.read;
   }
 
--- how a turn of a search ends: it brings nothing, and the search goes on, or it finds
-pub data EndsAs (end : TurnEnd Fact) : Type 0 where
-  goes : goes_on end ≡ true → records_of end ≡ [] → end_after false end ≡ ends.More → EndsAs end
-  finds : (records : List Fact) → end ≡ Found records → EndsAs end
+-- none of these records settles an Ask
+abbrev SettleNone : List Fact → Type 0
+SettleNone records = (r : Fact) (ask : Inquiry) → Contains records r → key_of r ≡ Some ask → ⊥
 
-plain_ends : (search : Plain) (units spent : ℕ) (end : TurnEnd Fact) → PlainEnd search units spent end → EndsAs end
-plain_ends search units spent More h = goes refl refl refl
-plain_ends search units spent (Found records) h = finds records refl
-plain_ends search units spent (Stopped seen) h = goes refl refl refl
-plain_ends search units spent (Closed records) h = absurd h
-plain_ends search units spent Idle h = absurd h
-plain_ends search units spent (Full what count) h = absurd h
+no_key : (r : Fact) (ask : Inquiry) → IsSome (group_of r) → key_of r ≡ Some ask → ⊥
+no_key (claims.settled own verdict) ask some e = cc some
+no_key (claims.model_of group model) ask some e = cc e
 
-search_ends : (search : Search) (units : ℕ) (facts : Facts Fact) (outcome : Outcome Fact) (after : Search) → SearchTurn search units facts outcome after → EndsAs outcome.end
-search_ends (plain search) units facts outcome (plain after) turn = plain_ends search units outcome.spent outcome.end turn.end
+models_at : (records : List Fact) (r : Fact) (ask : Inquiry) (k : ℕ) → AreModels recording records → k < length records → slice_index_or records k r ≡ r → key_of r ≡ Some ask → ⊥
+models_at [] r ask k models low at e = absurd (omega arith)
+models_at (x ∷ xs) r ask zero models low at e = no_key x ask models.0 (ap key_of at ∙ e)
+models_at (x ∷ xs) r ask (suc k) models low at e = models_at xs r ask k models.1 (omega arith) at e
 
-published : (search : Search) (units : ℕ) (facts : Facts Fact) (outcome : Outcome Fact) (after : Search) (records : List Fact) → is_open search ≡ true → SearchTurn search units facts outcome after → InRow search → outcome.end ≡ Found records → HasPublished after records
-published (plain search) units facts outcome (plain after) records opened turn in_row e =
-    turn_publishes search after units outcome.spent records opened (subst (λ (end : TurnEnd Fact). PlainTurn search units (record { spent = outcome.spent; end = end }) after) e turn) in_row
+-- an end of a search by the procedure that brings no verdict
+record BringsNone (procedure : Procedure) (end : TurnEnd Fact) : Type 0 where
+  none : SettleNone (records_of end)
+  found : end_after false end ≡ ends.Found → ⊥
+  verdict : HasVerdict (end_after false end) → ⊥
+  openness : (after : Search) → is_open after ≡ goes_on end → IsOpenAt (end_after false end) after
+  can_end : CanEnd (end_after false end) procedure
+
+-- how a turn of a search by the procedure ends: it brings no verdict, or it finds
+data EndsAs (procedure : Procedure) (end : TurnEnd Fact) : Type 0 where
+  goes : BringsNone procedure end → EndsAs procedure end
+  finds : (records : List Fact) → end ≡ Found records → EndsAs procedure end
+
+ends_as : (search : Search) (units : ℕ) (facts : Facts Fact) (spent : ℕ) (procedure : Procedure) (end : TurnEnd Fact) → MayEnd end procedure → EndFits recording searching search units facts spent end → EndsAs procedure end
+ends_as search units facts spent procedure More may fits = goes (record { none = λ r ask c e. contains_none r c; found = λ e. cc e; verdict = λ v. v; openness = λ after e. e; can_end = tt })
+ends_as search units facts spent procedure (Found records) may fits = finds records refl
+ends_as search units facts spent procedure (Closed records) may fits =
+    goes (record { none = λ r ask c e. models_at records r ask c.0 fits.1 c.1 c.2 e; found = λ e. cc e; verdict = λ v. v; openness = λ after e. e; can_end = may })
+ends_as search units facts spent procedure Idle may fits = goes (record { none = λ r ask c e. contains_none r c; found = λ e. cc e; verdict = λ v. v; openness = λ after e. e; can_end = may })
+ends_as search units facts spent procedure (Stopped seen) may fits = goes (record { none = λ r ask c e. contains_none r c; found = λ e. cc e; verdict = λ v. v; openness = λ after e. e; can_end = tt })
+ends_as search units facts spent procedure (Full what count) may fits = goes (record { none = λ r ask c e. contains_none r c; found = λ e. cc e; verdict = λ v. v; openness = λ after e. e; can_end = may })
 
 -- a search that wants no models has read what it had read
 read_on : (search : Search) (units : ℕ) (log : List (Entry Fact)) (read : ℕ) (facts : Facts Fact) → Handed recording.model_of log (ask_of search).group read (models_wanted search units) facts → facts.upto ≡ read
-read_on (plain search) units log read facts handed = handed.upto_is ∙ none_taken read (max read (length (facts_of log))) handed.models
+read_on search units log read facts handed =
+    let none = subst (λ (n : ℕ). Handed recording.model_of log (ask_of search).group read n facts) (none_wanted search units) handed in none.upto_is ∙ none_taken read (max read (length (facts_of log))) none.models
 
 either_within : (b : Bool) (x y n : ℕ) → x ≤ n → y ≤ n → cond b x y ≤ n
 either_within true x y n h g = h
@@ -133,8 +151,11 @@ module _ (log : List (Entry Fact)) (pass units : ℕ) (row : Row Search) (facts 
           | is_old old ↦ absurd (no_old kept same old)
         ]
 
-    none_brought : Brings key_of (ask_of row.search) (entry false) → records_of outcome.end ≡ [] → ⊥
-    none_brought brings none = contains_none brings.verdict (subst (λ (rs : List Fact). Contains rs brings.verdict) none brings.among)
+    none_brought : Brings key_of (ask_of row.search) (entry false) → SettleNone (records_of outcome.end) → ⊥
+    none_brought brings none = none brings.verdict (ask_of row.search) brings.among brings.settles_it
+
+    search_ends : EndsAs (procedure_of row.search) outcome.end
+    search_ends = ends_as row.search units facts outcome.spent (procedure_of row.search) outcome.end (turn_may_end row.search units facts outcome after turn) sound.end
 
     first_settles : (records : List Fact) → outcome.end ≡ Found records → Settles recording (ask_of row.search) records
     first_settles records e = subst (λ (end : TurnEnd Fact). EndFits recording searching row.search units facts outcome.spent end) e sound.end
@@ -174,15 +195,13 @@ module _ (log : List (Entry Fact)) (pass units : ℕ) (row : Row Search) (facts 
       can_end = tt;
     }
 
-    ends_kept : (Settled key_of log (ask_of row.search) → ⊥) → EndsAs outcome.end → EndsSo (log ++ entry false ∷ []) after row.number (end_after false outcome.end)
-    ends_kept unsettled (goes on none is_more) =
-        subst (EndsSo (log ++ entry false ∷ []) after row.number) (sym is_more)
-        (record {
-          found = (λ e. absurd (cc e), λ k. absurd (none_brought (brings_now false k.0 k.2 k.1).1 none));
-          verdict = λ v. absurd v;
-          openness = sound.openness ∙ on;
-          can_end = tt;
-        })
+    ends_kept : (Settled key_of log (ask_of row.search) → ⊥) → EndsAs (procedure_of row.search) outcome.end → EndsSo (log ++ entry false ∷ []) after row.number (end_after false outcome.end)
+    ends_kept unsettled (goes brings) = record {
+      found = (λ e. absurd (brings.found e), λ k. absurd (none_brought (brings_now false k.0 k.2 k.1).1 brings.none));
+      verdict = λ v. absurd (brings.verdict v);
+      openness = brings.openness after sound.openness;
+      can_end = subst (λ (p : Procedure). CanEnd (end_after false outcome.end) p) (sym (keeps_procedure row.search units facts outcome after turn)) brings.can_end;
+    }
     ends_kept unsettled (finds records e) =
         let settles = first_settles records e in
         let is_found : end_after false outcome.end ≡ ends.Found = ap (λ (end : TurnEnd Fact). end_after false end) e in
@@ -196,15 +215,15 @@ module _ (log : List (Entry Fact)) (pass units : ℕ) (row : Row Search) (facts 
 
     ends_so : (dropped : Bool) → (dropped ≡ true) ↔ Settled key_of log (ask_of row.search) → EndsSo (log ++ entry dropped ∷ []) after row.number (end_after dropped outcome.end)
     ends_so true was = ends_dropped (was.0 refl)
-    ends_so false was = ends_kept (λ s. not_both false (was.1 s) refl) (search_ends row.search units facts outcome after turn)
+    ends_so false was = ends_kept (λ s. not_both false (was.1 s) refl) search_ends
 
     publishes : (dropped : Bool) (kept : Entry Fact) → KeeperOf key_of (log ++ entry dropped ∷ []) (ask_of after) kept → kept.search ≡ row.number → HasPublished after kept.records
     publishes true kept k same = let brings = (brings_now true kept same k).1 in absurd (not_both true refl brings.kept)
     publishes false kept k same =
         let now = brings_now false kept same k in
-        elim (search_ends row.search units facts outcome after turn) [
-          | goes on none is_more ↦ absurd (none_brought now.1 none)
-          | finds records e ↦ subst (HasPublished after) (sym (ap (λ (x : Entry Fact). x.records) now.0 ∙ entry_brings records e)) (published row.search units facts outcome after records opened turn h.in_row e)
+        elim search_ends [
+          | goes brings ↦ absurd (none_brought now.1 brings.none)
+          | finds records e ↦ subst (HasPublished after) (sym (ap (λ (x : Entry Fact). x.records) now.0 ∙ entry_brings records e)) (turn_publishes row.search units facts outcome after records opened turn h.in_row e)
         ]
 
     pub stands_turn : (dropped : Bool) (seen : List (Entry Fact)) → (dropped ≡ true) ↔ Settled key_of log (ask_of row.search) → Handed recording.model_of seen (ask_of row.search).group row.read (models_wanted row.search units) facts →

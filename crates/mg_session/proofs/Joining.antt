@@ -5,7 +5,7 @@ use Rattle.mg_ledger.specs.declared.ledger.Account.{Account}
 use Rattle.mg_ledger.specs.Accounts.{no_units}
 use Rattle.mg_ledger.specs.Ledgers.{LedgerState, account_at}
 use Rattle.mg_workers.specs.declared.held.Held.{Held}
-use Rattle.mg_plain.specs.Plain.{Plain}
+use Rattle.mg_search.specs.Search.{Search}
 use Rattle.mg_session.specs.Parting.{held_of, running, places_of, kept_of, joined, account_after, cells_after, HasSpent, HaveSpent, IsPutBack}
 use Rattle.mg_session.specs.declared.state.Kept.{Kept}
 use Rattle.mg_session.specs.declared.parts.Place.{Place}
@@ -30,7 +30,7 @@ running_none cell (true ∷ runs) cells = refl
 running_none cell (false ∷ runs) cells = refl
 
 -- of searches that are to be parted, some first ones are
-pub record Parting (n : ℕ) (runs : List Bool) (searches : List Kept) (cells : List Account) (places : List Place) (held : List (Held Plain)) (left : List Kept) : Type 0 where
+pub record Parting (n : ℕ) (runs : List Bool) (searches : List Kept) (cells : List Account) (places : List Place) (held : List (Held Search)) (left : List Kept) : Type 0 where
   pub count : n + length left ≡ length searches
   pub places_are : places ++ places_of (drop n runs) (reverse left) ≡ places_of runs searches
   pub running_are : held ++ running n (drop n runs) (reverse left) (drop n cells) ≡ running 0 runs searches cells
@@ -44,16 +44,16 @@ part_begins runs searches cells left e =
       running_are = ap (λ ks. running 0 runs ks cells) back;
     }
 
-pub part_starts : (runs : List Bool) (searches : List Kept) (cells : List Account) (places : List Place) (held : List (Held Plain)) (left : List Kept) → places ≡ [] → held ≡ [] → left ≡ reverse searches → Parting (length places) runs searches cells places held left
+pub part_starts : (runs : List Bool) (searches : List Kept) (cells : List Account) (places : List Place) (held : List (Held Search)) (left : List Kept) → places ≡ [] → held ≡ [] → left ≡ reverse searches → Parting (length places) runs searches cells places held left
 part_starts runs searches cells places held left p q e =
     subst (λ (ps : List Place). Parting (length ps) runs searches cells ps held left) (sym p) (subst (λ hs. Parting 0 runs searches cells [] hs left) (sym q) (part_begins runs searches cells left e))
 
-module _ (n next : ℕ) (runs : List Bool) (searches : List Kept) (cells : List Account) (places : List Place) (held : List (Held Plain)) (left : List Kept) (h : Parting n runs searches cells places held left) where
+module _ (n next : ℕ) (runs : List Bool) (searches : List Kept) (cells : List Account) (places : List Place) (held : List (Held Search)) (left : List Kept) (h : Parting n runs searches cells places held left) where
   pub part_within : (left' : List Kept) (kept : Kept) → left ≡ left' ++ kept ∷ [] → n < length searches
   part_within left' kept e = let count = h.count in let more = longer left left' kept e in omega arith
 
   -- the next one runs
-  pub part_runs : (places' : List Place) (held' : List (Held Plain)) (left' : List Kept) (kept : Kept) (account : Account) → next ≡ n + 1 → left ≡ left' ++ kept ∷ [] → n < length runs → n < length cells → get_or runs n false ≡ true → account ≡ get_or cells n no_units →
+  pub part_runs : (places' : List Place) (held' : List (Held Search)) (left' : List Kept) (kept : Kept) (account : Account) → next ≡ n + 1 → left ≡ left' ++ kept ∷ [] → n < length runs → n < length cells → get_or runs n false ≡ true → account ≡ get_or cells n no_units →
       places' ≡ places ++ Runs kept.question ∷ [] → held' ≡ held ++ held_of n kept account ∷ [] → Parting next runs searches cells places' held' left'
   part_runs places' held' left' kept account next_is e runs_within cells_within is_true account_is new_places new_held =
       let turn : drop n runs ≡ true ∷ drop (n + 1) runs = drop_at runs n false runs_within ∙ ap (λ b. b ∷ drop (n + 1) runs) is_true in
@@ -89,17 +89,17 @@ module _ (n next : ℕ) (runs : List Bool) (searches : List Kept) (cells : List 
   parted_running e = sym (append-nil held) ∙ ap (λ hs. held ++ hs) (sym (ap (λ ks. running n (drop n runs) (reverse ks) (drop n cells)) e ∙ running_none n (drop n runs) (drop n cells))) ∙ h.running_are
 
 -- the cells of places behind a search that rests
-rest_cells : (kept : Kept) (places : List Place) (ran : List (Held Plain)) (cells : List Account) → HaveSpent (Rests kept ∷ places) ran cells → (account : Account) × (rest : List Account) × (cells ≡ account ∷ rest) × HaveSpent places ran rest
+rest_cells : (kept : Kept) (places : List Place) (ran : List (Held Search)) (cells : List Account) → HaveSpent (Rests kept ∷ places) ran cells → (account : Account) × (rest : List Account) × (cells ≡ account ∷ rest) × HaveSpent places ran rest
 rest_cells kept places ran [] h = absurd h
 rest_cells kept places ran (account ∷ cells) h = (account, cells, refl, h)
 
-run_cells : (question : ℕ) (places : List Place) (ran : List (Held Plain)) (cells : List Account) → HaveSpent (Runs question ∷ places) ran cells →
-    (held : Held Plain) × (left : List (Held Plain)) × (account : Account) × (rest : List Account) × (ran ≡ held ∷ left) × (cells ≡ account ∷ rest) × HasSpent account held × HaveSpent places left rest
+run_cells : (question : ℕ) (places : List Place) (ran : List (Held Search)) (cells : List Account) → HaveSpent (Runs question ∷ places) ran cells →
+    (held : Held Search) × (left : List (Held Search)) × (account : Account) × (rest : List Account) × (ran ≡ held ∷ left) × (cells ≡ account ∷ rest) × HasSpent account held × HaveSpent places left rest
 run_cells question places [] cells h = absurd h
 run_cells question places (held ∷ ran) [] h = absurd h
 run_cells question places (held ∷ ran) (account ∷ cells) h = (held, ran, account, cells, refl, refl, h.0, h.1)
 
-module _ (cell : ℕ) (ran : List (Held Plain)) (old : LedgerState) where
+module _ (cell : ℕ) (ran : List (Held Search)) (old : LedgerState) where
   pub rests_back : (kept : Kept) (places : List Place) → HaveSpent (Rests kept ∷ places) (reverse ran) (drop cell old.cells) → IsPutBack cell (Rests kept) places ran old kept ran old
   rests_back kept places h =
       let there = rest_cells kept places (reverse ran) (drop cell old.cells) h in
@@ -113,7 +113,7 @@ module _ (cell : ℕ) (ran : List (Held Plain)) (old : LedgerState) where
         ledger = refl;
       }
 
-  pub put_at : (p q : Place) (kept : Kept) (left : List (Held Plain)) (new : LedgerState) → p ≡ q → ((rest : List Place) → HaveSpent (q ∷ rest) (reverse ran) (drop cell old.cells) → IsPutBack cell q rest ran old kept left new) →
+  pub put_at : (p q : Place) (kept : Kept) (left : List (Held Search)) (new : LedgerState) → p ≡ q → ((rest : List Place) → HaveSpent (q ∷ rest) (reverse ran) (drop cell old.cells) → IsPutBack cell q rest ran old kept left new) →
       (rest : List Place) → HaveSpent (p ∷ rest) (reverse ran) (drop cell old.cells) → IsPutBack cell p rest ran old kept left new
   put_at p q kept left new e put = subst (λ (v : Place). (rest : List Place) → HaveSpent (v ∷ rest) (reverse ran) (drop cell old.cells) → IsPutBack cell v rest ran old kept left new) (sym e) put
 
@@ -122,12 +122,12 @@ module _ (cell : ℕ) (ran : List (Held Plain)) (old : LedgerState) where
   none_ran question places e h =
       let there = run_cells question places (reverse ran) (drop cell old.cells) h in absurd (cc (sym there.4 ∙ ap reverse e))
 
-  pub record CanSpend (held : Held Plain) : Type 0 where
+  pub record CanSpend (held : Held Search) : Type 0 where
     pub within : cell < length old.cells
     pub rises : (account_at old cell).spent ≤ held.spent
     pub balance : held.held + held.spent ≡ (account_at old cell).held + (account_at old cell).spent
 
-  pub can_spend : (question : ℕ) (places : List Place) (left : List (Held Plain)) (held : Held Plain) → ran ≡ left ++ held ∷ [] → HaveSpent (Runs question ∷ places) (reverse ran) (drop cell old.cells) → CanSpend held
+  pub can_spend : (question : ℕ) (places : List Place) (left : List (Held Search)) (held : Held Search) → ran ≡ left ++ held ∷ [] → HaveSpent (Runs question ∷ places) (reverse ran) (drop cell old.cells) → CanSpend held
   can_spend question places left held e h =
       let there = run_cells question places (reverse ran) (drop cell old.cells) h in
       let on = goes_on old.cells cell there.2 there.3 there.5 in
@@ -136,7 +136,7 @@ module _ (cell : ℕ) (ran : List (Held Plain)) (old : LedgerState) where
       let spent : HasSpent (account_at old cell) held = subst (λ a. HasSpent a held) (sym account) (subst (HasSpent there.2) same there.6) in
       record { within = on.within; rises = spent.rises; balance = spent.balance }
 
-  pub runs_back : (question : ℕ) (left : List (Held Plain)) (held : Held Plain) (kept : Kept) (new : LedgerState) → ran ≡ left ++ held ∷ [] → kept ≡ kept_of question held →
+  pub runs_back : (question : ℕ) (left : List (Held Search)) (held : Held Search) (kept : Kept) (new : LedgerState) → ran ≡ left ++ held ∷ [] → kept ≡ kept_of question held →
       new ≡ record old { cells = set old.cells cell (record (account_at old cell) { spent = held.spent; held = (account_at old cell).held + (account_at old cell).spent - held.spent }) } →
       (places : List Place) → HaveSpent (Runs question ∷ places) (reverse ran) (drop cell old.cells) → IsPutBack cell (Runs question) places ran old kept left new
   runs_back question left held kept new e kept_is new_is places h =
@@ -167,14 +167,14 @@ module _ (cell : ℕ) (ran : List (Held Plain)) (old : LedgerState) where
       account_with a spent held = record a { spent = spent; held = held }
 
 -- of searches that are to be joined, some first ones are
-pub record Joining (n : ℕ) (places : List Place) (ran : List (Held Plain)) (first : LedgerState) (searches : List Kept) (left : List Place) (ran_left : List (Held Plain)) (now : LedgerState) : Type 0 where
+pub record Joining (n : ℕ) (places : List Place) (ran : List (Held Search)) (first : LedgerState) (searches : List Kept) (left : List Place) (ran_left : List (Held Search)) (now : LedgerState) : Type 0 where
   pub count : n + length left ≡ length places
   pub searches_are : searches ++ joined (reverse left) (reverse ran_left) ≡ joined places ran
   pub cells_are : take n now.cells ++ cells_after (reverse left) (reverse ran_left) (drop n now.cells) ≡ cells_after places ran first.cells
   pub spent : HaveSpent (reverse left) (reverse ran_left) (drop n now.cells)
   pub ledger : now ≡ record first { cells = now.cells }
 
-pub join_begins : (places : List Place) (ran : List (Held Plain)) (first : LedgerState) (left : List Place) (ran_left : List (Held Plain)) → left ≡ reverse places → ran_left ≡ reverse ran → HaveSpent places ran first.cells →
+pub join_begins : (places : List Place) (ran : List (Held Search)) (first : LedgerState) (left : List Place) (ran_left : List (Held Search)) → left ≡ reverse places → ran_left ≡ reverse ran → HaveSpent places ran first.cells →
     Joining 0 places ran first [] left ran_left first
 join_begins places ran first left ran_left e f h =
     let back : reverse left ≡ places = ap reverse e ∙ reverse-reverse places in
@@ -187,14 +187,14 @@ join_begins places ran first left ran_left e f h =
       ledger = refl;
     }
 
-module _ (n next : ℕ) (places : List Place) (ran : List (Held Plain)) (first : LedgerState) (searches : List Kept) (left : List Place) (ran_left : List (Held Plain)) (now : LedgerState) (h : Joining n places ran first searches left ran_left now) where
+module _ (n next : ℕ) (places : List Place) (ran : List (Held Search)) (first : LedgerState) (searches : List Kept) (left : List Place) (ran_left : List (Held Search)) (now : LedgerState) (h : Joining n places ran first searches left ran_left now) where
   abbrev pub join_can : (cell : ℕ) (left' : List Place) (place : Place) → cell ≡ n → left ≡ left' ++ place ∷ [] → (rest : List Place) × HaveSpent (place ∷ rest) (reverse ran_left) (drop cell now.cells)
   join_can cell left' place same e = (reverse left', subst (λ m. HaveSpent (place ∷ reverse left') (reverse ran_left) (drop m now.cells)) (sym same) (subst (λ ps. HaveSpent ps (reverse ran_left) (drop n now.cells)) (turned left left' place e) h.spent))
 
   pub join_within : (left' : List Place) (place : Place) → left ≡ left' ++ place ∷ [] → n < length places
   join_within left' place e = let count = h.count in let more = longer left left' place e in omega arith
 
-  pub join_next : (cell : ℕ) (left' : List Place) (place : Place) (kept : Kept) (ran_left' : List (Held Plain)) (new : LedgerState) (searches' : List Kept) → cell ≡ n → next ≡ n + 1 → left ≡ left' ++ place ∷ [] →
+  pub join_next : (cell : ℕ) (left' : List Place) (place : Place) (kept : Kept) (ran_left' : List (Held Search)) (new : LedgerState) (searches' : List Kept) → cell ≡ n → next ≡ n + 1 → left ≡ left' ++ place ∷ [] →
       ((rest : List Place) → HaveSpent (place ∷ rest) (reverse ran_left) (drop cell now.cells) → IsPutBack cell place rest ran_left now kept ran_left' new) → searches' ≡ searches ++ kept ∷ [] →
       Joining next places ran first searches' left' ran_left' new
   join_next cell left' place kept ran_left' new searches' same next_is e put new_searches =
@@ -215,7 +215,7 @@ module _ (n next : ℕ) (places : List Place) (ran : List (Held Plain)) (first :
   pub joined_searches : left ≡ [] → searches ≡ joined places ran
   joined_searches e = sym (append-nil searches) ∙ ap (λ ps. searches ++ joined (reverse ps) (reverse ran_left)) (sym e) ∙ h.searches_are
 
-  none_behind : (hs : List (Held Plain)) (cs : List Account) → HaveSpent [] hs cs → cs ≡ []
+  none_behind : (hs : List (Held Search)) (cs : List Account) → HaveSpent [] hs cs → cs ≡ []
   none_behind [] [] spent = refl
   none_behind [] (c ∷ cs) spent = absurd spent
   none_behind (x ∷ hs) cs spent = absurd spent

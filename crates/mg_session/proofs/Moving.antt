@@ -5,8 +5,7 @@ use Rattle.mg_words.specs.declared.procedure.Procedure.{Procedure}
 use Rattle.mg_workers.proofs.Pairs.{all_at}
 use Rattle.mg_present.specs.Ask.{Inquiry}
 use Rattle.mg_names.specs.Plan.{Plan, AskOf}
-use Rattle.mg_plain.specs.Plain.{Plain}
-use Rattle.mg_search.specs.Search.{plain, Opens}
+use Rattle.mg_search.specs.Search.{Search, Opens}
 use Rattle.mg_session.specs.State.{State, SearchState, IsOf}
 use Rattle.mg_session.specs.Session.{IsAbsent, granted, new_search, cancelled, Grants, to_one_there, to_a_new_one, Cancels, gives_back}
 use Rattle.mg_session.specs.At.{IsSearchAt, Replaces, with_new, IsReady, was_there, is_new}
@@ -63,7 +62,7 @@ module _ (plan : Plan) (question : ℕ) (procedure : Procedure) (units : ℕ) wh
       (here.after_is ∙ ap (λ xs. record old { purse = old.purse - units; searches = xs }) (ap (λ n. set (old.searches ++ x ∷ []) n (granted units x)) last ∙ last_set old.searches x (granted units x) ∙ ap (λ v. old.searches ++ v ∷ []) same))
 
 -- a search that is made is ready
-pub made_ready : {E : Type 0} (plan : Plan) (question : ℕ) (procedure : Procedure) (old new : State) (ask : Inquiry) (search : Plain) (result : Result ℕ E) → IsAbsent old question procedure → AskOf plan question ask → Opens procedure ask (plain search) →
-    OnOk result (new ≡ with_new question (plain search) old) → IfOk result (λ place. place ≡ length old.searches) → IfOk result (λ place. IsReady plan question procedure old place new)
-made_ready plan question procedure old new ask search (Ok place) absent asked opens made last = is_new absent ask (plain search) asked opens last made
+pub made_ready : {E : Type 0} (plan : Plan) (question : ℕ) (procedure : Procedure) (old new : State) (ask : Inquiry) (search : Search) (result : Result ℕ E) → IsAbsent old question procedure → AskOf plan question ask → Opens procedure ask search →
+    OnOk result (new ≡ with_new question search old) → IfOk result (λ place. place ≡ length old.searches) → IfOk result (λ place. IsReady plan question procedure old place new)
+made_ready plan question procedure old new ask search (Ok place) absent asked opens made last = is_new absent ask search asked opens last made
 made_ready plan question procedure old new ask search (Err e) absent asked opens made last = tt

@@ -5,50 +5,26 @@ use Rattle.mg_lex.specs.declared.keyword.Keyword.TheVariants as keyword
 use Rattle.mg_terms.specs.declared.lexeme.Lexeme.{Lexeme}
 use Rattle.mg_terms.specs.declared.lexeme.Lexeme.TheVariants as lexeme
 use Rattle.mg_words.specs.declared.procedure.Procedure.{Procedure}
-use Rattle.mg_words.specs.declared.procedure.Procedure.TheVariants.{Derive, Act, Residue, Rewrite, Cosets, Nielsen, Recall}
 use Rattle.mg_script.specs.Statement.{procedure_keyword}
-use Rattle.mg_plain.specs.Plain.{IsPlain}
+use Rattle.mg_search.specs.Search.{IsBuilt}
 use Rattle.mg_session.specs.Scripts.{UsesOther, grants, cancels}
 use Rattle.mg_session.specs.Other.{IsOther, IsOtherName}
 
--- the procedure of such a name
-record Named (name : Keyword) : Type 0 where
-  procedure : Procedure
-  other : IsPlain procedure → ⊥
-  name_is : procedure_keyword procedure ≡ name
-
-named : (name : Keyword) → IsOtherName name → Named name
-named keyword.Rewrite h = record { procedure = Rewrite; other = λ built. built; name_is = refl }
-named keyword.Cosets h = record { procedure = Cosets; other = λ built. built; name_is = refl }
-named keyword.Nielsen h = record { procedure = Nielsen; other = λ built. built; name_is = refl }
-named keyword.Recall h = record { procedure = Recall; other = λ built. built; name_is = refl }
-named _ h = absurd h
-
 -- a keyword that names no procedure names none that isn't built
 pub not_named : (name : Keyword) → ((p : Procedure) → procedure_keyword p ≡ name → ⊥) → IsOtherName name → ⊥
-not_named name none h =
-    let p : Named name = named name h in
-    none p.procedure p.name_is
+not_named name none h = none h.procedure h.name_is
 
-is_other : (p : Procedure) → (IsPlain p → ⊥) → IsOtherName (procedure_keyword p)
-is_other Derive h = absurd (h tt)
-is_other Act h = absurd (h tt)
-is_other Residue h = absurd (h tt)
-is_other Rewrite h = tt
-is_other Cosets h = tt
-is_other Nielsen h = tt
-is_other Recall h = tt
+is_other : (p : Procedure) → (IsBuilt p → ⊥) → IsOtherName (procedure_keyword p)
+is_other p other = record { procedure = p; other = other; name_is = refl }
 
 granted : (a b c d : Lexeme) → a ≡ lexeme.Keyword keyword.Grant → b ≡ lexeme.Name → IsOther c → (n : ℕ) → d ≡ lexeme.Number n → UsesOther (a ∷ b ∷ c ∷ d ∷ [])
 granted a b (lexeme.Keyword name) d is_grant is_name other n is_number =
-    let p : Named name = named name other in
-    grants p.procedure n p.other (rw (is_grant, is_name, is_number, p.name_is) refl)
+    grants other.procedure n other.other (rw (is_grant, is_name, is_number, other.name_is) refl)
 granted a b _ d is_grant is_name other n is_number = absurd other
 
 cancelled : (a b c : Lexeme) → a ≡ lexeme.Keyword keyword.Cancel → b ≡ lexeme.Name → IsOther c → UsesOther (a ∷ b ∷ c ∷ [])
 cancelled a b (lexeme.Keyword name) is_cancel is_name other =
-    let p : Named name = named name other in
-    cancels p.procedure p.other (rw (is_cancel, is_name, p.name_is) refl)
+    cancels other.procedure other.other (rw (is_cancel, is_name, other.name_is) refl)
 cancelled a b _ is_cancel is_name other = absurd other
 
 -- what such a line begins with

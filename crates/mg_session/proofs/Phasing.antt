@@ -12,9 +12,10 @@ use Rattle.mg_workers.proofs.Pairs.{all_at, all_imply}
 use Rattle.mg_names.specs.Plan.{Plan}
 use Rattle.mg_certs.specs.Claim.{Fact}
 use Rattle.mg_certs.specs.Validity.{key_of}
-use Rattle.mg_search.specs.Search.{Search, plain, ask_of}
+use Rattle.mg_search.specs.Search.{ask_of}
+use Rattle.mg_search.proofs.Turns.{none_reads}
 use Rattle.mg_session.specs.State.{State, SearchState, accounts, ledger_of, row_taken}
-use Rattle.mg_session.specs.Run.{allow, Reads, Idles, KeepsVerdict, TakesPart, IsSettledTo, is_found, is_stopped, stays, Settle, Rounds, RunStep}
+use Rattle.mg_session.specs.Run.{allow, Idles, KeepsVerdict, TakesPart, IsSettledTo, is_found, is_stopped, stays, Settle, Rounds, RunStep}
 use Rattle.mg_session.specs.StateOk.{EndsSo, StandsBeside, StateOk}
 use Rattle.mg_session.specs.Built.{one_worker}
 use Rattle.mg_session.specs.At.{Replaces}
@@ -140,10 +141,7 @@ settle_done first i last now over h =
 -- no search reads models
 none_idles : (state : State) (xs : List SearchState) → AllByRecursion (λ search. Idles state search → ⊥) xs
 none_idles state [] = tt
-none_idles state (x ∷ xs) = (λ idles. never x.search idles.reads, none_idles state xs)
-  where
-    never : (search : Search) → Reads search → ⊥
-    never (plain search) reads = reads
+none_idles state (x ∷ xs) = (λ idles. none_reads x.search idles.reads, none_idles state xs)
 
 ends_of : (log : List (Entry Fact)) (xs : List SearchState) → AllByRecursion (λ (x : SearchState). StandsBeside log (row_taken true x)) xs → AllByRecursion (EndsSoOf log) xs
 ends_of log xs h = all_imply (λ (x : SearchState). StandsBeside log (row_taken true x)) (EndsSoOf log) (λ x stands. stands.end) xs h

@@ -15,7 +15,8 @@ use Rattle.mg_names.specs.Plan.{Plan}
 use Rattle.mg_certs.specs.Claim.{Fact}
 use Rattle.mg_certs.specs.Validity.{key_of}
 use Rattle.mg_plain.specs.Plain.{AcceptedBy, Publishes, IsPlain}
-use Rattle.mg_search.specs.Search.{Search, plain, ask_of, procedure_of, units_spent, InRow, HasPublished, TestsNumbered, is_open as goes_on}
+use Rattle.mg_search.specs.Search.{Search, ask_of, procedure_of, TestsNumbered, is_open as goes_on}
+use Rattle.mg_search.proofs.Numbered.{none_passed, published_first}
 use Rattle.mg_session.specs.State.{State, SearchState, Params, row_taken}
 use Rattle.mg_session.specs.Run.{RunStep}
 use Rattle.mg_session.specs.StateOk.{CanEnd, EndsSo, StandsBeside, StateOk}
@@ -82,9 +83,6 @@ open_at log search number ends.Stopped built unsettled h = absurd (unsettled (h.
 open_at log search number ends.Closed built unsettled h = absurd (plain_goes_on (procedure_of search) ends.Closed built h.can_end tt)
 open_at log search number (ends.Full what count) built unsettled h = absurd (plain_goes_on (procedure_of search) (ends.Full what count) built h.can_end tt)
 
-none_to : (search : Search) → InRow search → goes_on search ≡ true → NoneAmong (AcceptedBy (procedure_of search) (ask_of search)) 0 (units_spent search)
-none_to (plain search) row on = row on
-
 -- where a run leaves a plain search: its Ask is settled, or it has spent its whole reach
 pub plain_ends : (bound : Option ℕ) (log : List (Entry Fact)) (x y : SearchState) → IsPlain (procedure_of x.search) → IsRunTo bound log x y → StandsBeside log (row_taken true y) → Settled key_of log (ask_of x.search) ⊎ ((Settled key_of log (ask_of x.search) → ⊥) × (y.account.spent ≡ reach bound x))
 plain_ends bound log x y built ran stands =
@@ -108,7 +106,7 @@ first_settles bound log x y n ran stands first within =
           let units = stands.units in
           let spent = h.1 in
           let from = first.from in
-          absurd (none_to y.search stands.in_row on n (omega arith) (omega arith) holds))
+          absurd (none_passed y.search stands.in_row on n (omega arith) (omega arith) holds))
     ]
 
 module _ (plan : Plan) (params : Params) (bound : Option ℕ) (old new : State) (step : RunStep plan params bound old new) (ok : StateOk plan params.workers old) (i : ℕ) (x : SearchState) (there : slice_get old.searches i ≡ Some x) where
@@ -126,9 +124,6 @@ module _ (plan : Plan) (params : Params) (bound : Option ℕ) (old new : State) 
   pub spends_reach : IsPlain (procedure_of x.search) → (Settled key_of new.log (ask_of x.search) → ⊥) → (y : SearchState) × (slice_get new.searches i ≡ Some y) × (y.account.spent ≡ reach bound x)
   spends_reach built unsettled =
       elim (plain_ends bound new.log x ran_to.0 built ran_to.2 stands_there) [ inl s ↦ absurd (unsettled s) | inr h ↦ (ran_to.0, ran_to.1, h.1) ]
-
-published_first : (search : Search) (records : List Fact) → TestsNumbered search → HasPublished search records → (n : ℕ) × First (AcceptedBy (procedure_of search) (ask_of search)) n × Publishes (procedure_of search) (ask_of search) n records
-published_first (plain search) records tests h = (search.cursor, h.0, h.1)
 
 -- a search through numbered objects that keeps the verdict for its Ask has published the object with the least number
 pub keeps_first : (plan : Plan) (workers : ℕ) (state : State) (i : ℕ) (x : SearchState) (entry : Entry Fact) → StateOk plan workers state → slice_get state.searches i ≡ Some x → TestsNumbered x.search → KeeperOf key_of state.log (ask_of x.search) entry → entry.search ≡ x.number →
@@ -155,4 +150,4 @@ module _ (plan : Plan) (workers : ℕ) (state : State) (i : ℕ) (x : SearchStat
   settled_over built over = over_settled state.log x.search x.number x.end built stands_at.end over
 
   pub tested_none : goes_on x.search ≡ true → NoneAmong (AcceptedBy (procedure_of x.search) (ask_of x.search)) 0 x.account.spent
-  tested_none on = subst (NoneAmong (AcceptedBy (procedure_of x.search) (ask_of x.search)) 0) stands_at.units (none_to x.search stands_at.in_row on)
+  tested_none on = subst (NoneAmong (AcceptedBy (procedure_of x.search) (ask_of x.search)) 0) stands_at.units (none_passed x.search stands_at.in_row on)

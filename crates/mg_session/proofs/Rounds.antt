@@ -14,7 +14,8 @@ use Rattle.mg_workers.proofs.Legality.{runs_legal}
 use Rattle.mg_certs.specs.Claim.{Fact, settled, model_of}
 use Rattle.mg_certs.specs.Validity.{recording, IsValid, key_of}
 use Rattle.mg_search.specs.Search.{Search, searching, ask_of, procedure_of, HasPublished}
-use Rattle.mg_search.proofs.Turns.{sound, keeps_procedure}
+use Rattle.mg_search.specs.Sounds.{sound}
+use Rattle.mg_search.proofs.Turns.{keeps_procedure}
 use Rattle.mg_session.specs.Run.{IsRow, Rounds}
 use Rattle.mg_session.specs.State.{State, SearchState, Params, asks, row_taken, after_row}
 use Rattle.mg_session.specs.StateOk.{EndsSo, StandsBeside, HasPass, of_worker, AreNumbered}

@@ -16,9 +16,10 @@ use Rattle.mg_workers.proofs.Events.{runs_begins}
 use Rattle.mg_names.specs.Plan.{Plan}
 use Rattle.mg_certs.specs.Claim.{Fact}
 use Rattle.mg_certs.specs.Validity.{recording, key_of}
-use Rattle.mg_search.specs.Search.{Search, plain, searching, ask_of, procedure_of}
+use Rattle.mg_search.specs.Search.{Search, searching, ask_of, procedure_of}
+use Rattle.mg_search.proofs.Turns.{none_reads}
 use Rattle.mg_session.specs.State.{State, SearchState, Params, row_taken, after_row}
-use Rattle.mg_session.specs.Run.{after_rows, within_bound, allow, CanGoOn, TakesPart, Core, Reads, FurtherBy, IsSettledTo, is_found, is_stopped, stays, Settle, RunStep}
+use Rattle.mg_session.specs.Run.{after_rows, within_bound, allow, CanGoOn, TakesPart, Core, FurtherBy, IsSettledTo, is_found, is_stopped, stays, Settle, RunStep}
 use Rattle.mg_session.specs.StateOk.{HasVerdict, StandsBeside, StateOk}
 use Rattle.mg_session.specs.RunOk.{reach, LeavesUnits, is_settled, is_open, IsRunTo, RunOk}
 use Rattle.mg_session.proofs.Settling.{settled_grows}
@@ -183,14 +184,11 @@ settled_to bound state x y z h (stays unsettled e) =
       ends = is_open unsettled_too h.total (h.ends unsettled_too);
     })
 
-no_reads : (x : Search) → Reads x → ⊥
-no_reads (plain search) h = h
-
 module _ (plan : Plan) where
   -- no search reads models yet, so none is run again
   no_further : (params : Params) (old : State) (states : List State) (new : State) → FurtherBy plan params old states new → new ≡ old
   no_further params old [] new h = h.1
-  no_further params old (next ∷ states) new h = absurd (no_reads h.0.search.search h.0.idles.reads)
+  no_further params old (next ∷ states) new h = absurd (none_reads h.0.search.search h.0.idles.reads)
 
   -- the rounds of a run
   pub record CoreOk (bound : Option ℕ) (old new : State) : Type 0 where

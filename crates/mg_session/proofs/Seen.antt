@@ -13,8 +13,7 @@ use Rattle.mg_workers.specs.declared.held.End.{End}
 use Rattle.mg_workers.specs.declared.held.End.TheVariants as ends
 use Rattle.mg_certs.specs.Claim.{Fact}
 use Rattle.mg_certs.specs.Validity.{key_of}
-use Rattle.mg_plain.specs.Plain.{Plain}
-use Rattle.mg_search.specs.Search.{plain, ask_of}
+use Rattle.mg_search.specs.Search.{Search, ask_of}
 use Rattle.mg_session.specs.State.{State, SearchState, IsOf, give_back, ended}
 use Rattle.mg_session.specs.Run.{IsSettled, CanGoOn, TakesPart, IsSettledTo, is_found, is_stopped, stays, allow, within_bound}
 use Rattle.mg_session.specs.Session.{IsAbsent, granted, cancelled, end_granted, end_cancelled, new_search}
@@ -108,7 +107,7 @@ unsettled_at s place x there none =
     (x, stays none refl, record { after_is = ap (λ xs. record s { searches = xs }) (sym (set_there s.searches place x there)) ∙ ap (λ p. record s { purse = p; searches = set s.searches place x }) (sym nothing) })
 
 -- a search that has made no turn
-abbrev pub fresh : ℕ → Plain → Kept
+abbrev pub fresh : ℕ → Search → Kept
 fresh question search = record { question = question; search = search; allowed = 0; turns = 0; read = 0; end = ends.Fresh }
 
 abbrev state_with : List (Entry Fact) → ℕ → ℕ → List SearchState → State
@@ -207,10 +206,10 @@ module _ (s : State) (ledger : LedgerState) (ks : List Kept) (log : List (Entry 
         set_same (a ∷ cs) zero = refl
         set_same (a ∷ cs) (suc i) = ap (λ bs. a ∷ bs) (set_same cs i)
 
-    pub is_settled : (k : Kept) → k ≡ get_or ks place k → Settled key_of log k.search.ask → IsSettled s x
+    pub is_settled : (k : Kept) → k ≡ get_or ks place k → Settled key_of log (ask_of k.search) → IsSettled s x
     is_settled k e h = subst (λ (v : State). IsSettled v x) is (subst (λ (v : SearchState). Settled key_of log (ask_of v.search)) (sym (is_kept k e)) h)
 
-    pub is_unsettled : (k : Kept) → k ≡ get_or ks place k → (Settled key_of log k.search.ask → ⊥) → IsSettled s x → ⊥
+    pub is_unsettled : (k : Kept) → k ≡ get_or ks place k → (Settled key_of log (ask_of k.search) → ⊥) → IsSettled s x → ⊥
     is_unsettled k e h settled =
         h (subst (λ (v : SearchState). Settled key_of log (ask_of v.search)) (is_kept k e) (subst (λ (v : State). IsSettled v x) (sym is) settled))
 
@@ -252,15 +251,15 @@ module _ (s : State) (ledger : LedgerState) (ks : List Kept) (log : List (Entry 
               (ap (λ (l : LedgerState). l.purse) new ∙ ap (λ (a : Account). ledger.purse + a.held) account_is ∙ ap (λ (v : State). v.purse + x.account.held) is ∙ purse) (ap (λ (l : LedgerState). l.cells) new) made,
         )
 
-  pub added : (ledger' : LedgerState) (question : ℕ) (search : Plain) (now : List Kept) → now ≡ ks ++ fresh question search ∷ [] → Step ledger AddCell ledger' →
-      state_of ledger' now log ≡ with_new question (plain search) s
+  pub added : (ledger' : LedgerState) (question : ℕ) (search : Search) (now : List Kept) → now ≡ ks ++ fresh question search ∷ [] → Step ledger AddCell ledger' →
+      state_of ledger' now log ≡ with_new question search s
   added ledger' question search now now_is step =
       let kept = fresh question search in
       let same : 1 + length ks ≡ length s.searches + 1 = let c = count_is in omega arith in
-      let made : seen (1 + length ks) kept no_units ≡ new_search question (length s.searches + 1) (plain search) 0 = ap (λ n. new_search question n (plain search) 0) same in
+      let made : seen (1 + length ks) kept no_units ≡ new_search question (length s.searches + 1) search 0 = ap (λ n. new_search question n search 0) same in
       ap (λ v. state_of ledger' v log) now_is ∙ ap (λ (l : LedgerState). state_of l (ks ++ kept ∷ []) log) step
       ∙ ap (λ xs. record { funded = ledger.funded; purse = ledger.purse; searches = xs; log = log }) (push_seen 1 ks ledger.cells kept no_units cells.each ∙ ap (λ v. all_seen 1 ks ledger.cells ++ v ∷ []) made)
-      ∙ ap (λ (v : State). record v { searches = v.searches ++ new_search question (length s.searches + 1) (plain search) 0 ∷ [] }) is
+      ∙ ap (λ (v : State). record v { searches = v.searches ++ new_search question (length s.searches + 1) search 0 ∷ [] }) is
 
   pub still_cells : (ledger' : LedgerState) (kept : Kept) (now : List Kept) → now ≡ ks ++ kept ∷ [] → Step ledger AddCell ledger' → length s.searches < 2 ^ 32 - 1 → HaveCells now ledger'.cells
   still_cells ledger' kept now now_is step few =

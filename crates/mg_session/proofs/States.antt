@@ -18,9 +18,8 @@ use Rattle.mg_present.specs.Applies.{Applies}
 use Rattle.mg_names.specs.Plan.{Plan, AskOf, Step, fund, grant, run, cancel, report, report_facts, report_log}
 use Rattle.mg_certs.specs.Claim.{Fact}
 use Rattle.mg_certs.specs.Validity.{IsValid, key_of}
-use Rattle.mg_plain.specs.Plain.{Plain}
-use Rattle.mg_search.specs.Search.{Search, plain, ask_of, procedure_of, is_open, Opens}
-use Rattle.mg_search.proofs.Turns.{opens_in_row, opens_applies}
+use Rattle.mg_search.specs.Search.{Search, ask_of, procedure_of, is_open, Opens}
+use Rattle.mg_search.proofs.Starts.{opens_in_row, opens_applies, opens_procedure, opens_ask, opens_unspent, opens_open}
 use Rattle.mg_session.specs.State.{State, SearchState, Params, IsOf, empty, accounts, ledger_of, asks, give_back, ended, row_taken, after_row}
 use Rattle.mg_session.specs.Run.{KeepsVerdict, after_rows, Rounds, within_bound, allow, TakesPart, Core, Idles, FurtherBy, IsSettledTo, is_found, is_stopped, stays, Settle, RunStep}
 use Rattle.mg_session.specs.Session.{IsAbsent, granted, new_search, cancelled, end_granted, end_cancelled, Grants, to_one_there, to_a_new_one, Cancels, gives_back, is_refused, After, Continues, Session}
@@ -311,28 +310,28 @@ module _ (plan : Plan) (workers : ℕ) where
       record { in_row = h.in_row; units = h.units; counted = h.counted; allowed = omega arith; end = end_cancelled_so log x.search x.number x.end h.end; published = h.published; read = h.read }
 
   new_stands : (log : List (Entry Fact)) (question number units : ℕ) (procedure : Procedure) (ask : Inquiry) (x : Search) → AllByRecursion (λ (entry : Entry Fact). entry.search < number) log → Opens procedure ask x → StandsBeside log (row_taken true (new_search question number x units))
-  new_stands log question number units procedure ask (plain search) below opens = record {
-    in_row = opens_in_row procedure ask (plain search) opens;
-    units = ap (λ (s : Plain). s.cursor) opens.search_is;
+  new_stands log question number units procedure ask search below opens = record {
+    in_row = opens_in_row procedure ask search opens;
+    units = opens_unspent procedure ask search opens;
     counted = no_units_above number log below;
     allowed = omega arith;
     end = record {
-      found = (λ e. absurd (cc e), λ k. absurd (no_keeper_above number log search.ask k.0 below k.1 k.2));
+      found = (λ e. absurd (cc e), λ k. absurd (no_keeper_above number log (ask_of search) k.0 below k.1 k.2));
       verdict = λ v. absurd v;
-      openness = ap (λ (s : Plain). s.is_open) opens.search_is;
+      openness = opens_open procedure ask search opens;
       can_end = tt;
     };
-    published = λ entry k same. absurd (no_keeper_above number log search.ask entry below k same);
+    published = λ entry k same. absurd (no_keeper_above number log (ask_of search) entry below k same);
     read = omega arith;
   }
 
   new_asked : (question number units : ℕ) (procedure : Procedure) (ask : Inquiry) (x : Search) → AskOf plan question ask → Opens procedure ask x → IsAsked plan (new_search question number x units)
-  new_asked question number units procedure ask (plain search) asked opens =
-      let same_ask : search.ask ≡ ask = ap (λ (s : Plain). s.ask) opens.search_is in
-      let same_procedure : search.procedure ≡ procedure = ap (λ (s : Plain). s.procedure) opens.search_is in
+  new_asked question number units procedure ask search asked opens =
+      let same_ask = opens_ask procedure ask search opens in
+      let same_procedure = opens_procedure procedure ask search opens in
       record {
         asked = subst (AskOf plan question) (sym same_ask) asked;
-        applies = subst (λ (a : Inquiry). Applies search.procedure a) (sym same_ask) (subst (λ (p : Procedure). Applies p ask) (sym same_procedure) (opens_applies procedure ask (plain search) opens));
+        applies = subst (λ (a : Inquiry). Applies (procedure_of search) a) (sym same_ask) (subst (λ (p : Procedure). Applies p ask) (sym same_procedure) (opens_applies procedure ask search opens));
       }
 
   numbered_push : (n : ℕ) (xs : List SearchState) (x : SearchState) → AreNumbered n xs → x.number ≡ n + length xs → AreNumbered n (xs ++ x ∷ [])
@@ -344,9 +343,9 @@ module _ (plan : Plan) (workers : ℕ) where
   single_push (y ∷ xs) x h other = (all-append (AreOther y) xs (x ∷ []) h.0 (other.0, tt), single_push xs x h.1 other.1)
 
   absent_other : (question number units : ℕ) (procedure : Procedure) (ask : Inquiry) (x : Search) → Opens procedure ask x → (xs : List SearchState) → AllByRecursion (λ (y : SearchState). IsOf question procedure y → ⊥) xs → AllByRecursion (λ (y : SearchState). AreOther y (new_search question number x units)) xs
-  absent_other question number units procedure ask (plain search) opens xs absent =
-      let same : search.procedure ≡ procedure = ap (λ (s : Plain). s.procedure) opens.search_is in
-      all_imply (λ (y : SearchState). IsOf question procedure y → ⊥) (λ (y : SearchState). AreOther y (new_search question number (plain search) units))
+  absent_other question number units procedure ask search opens xs absent =
+      let same = opens_procedure procedure ask search opens in
+      all_imply (λ (y : SearchState). IsOf question procedure y → ⊥) (λ (y : SearchState). AreOther y (new_search question number search units))
       (λ y none q p. none (record { of_question = q; of_procedure = p ∙ same })) xs absent
 
   grant_new_ok : (units : ℕ) (old : State) (question : ℕ) (procedure : Procedure) (ask : Inquiry) (x : Search) → IsAbsent old question procedure → AskOf plan question ask → Opens procedure ask x → units ≤ old.purse → StateOk plan workers old →

@@ -5,8 +5,6 @@ use Rattle.mg_terms.specs.declared.lexeme.Lexeme.{Lexeme}
 use Rattle.std.specs.Prelude.{Option, Some, None, Result, Err}
 use Rattle.std.specs.List.{AllByRecursion}
 use Rattle.mg_words.specs.declared.procedure.Procedure.{Procedure}
-use Rattle.mg_words.specs.declared.procedure.Procedure.TheVariants as procedure
-use Rattle.mg_plain.specs.Plain.{IsPlain}
 use Rattle.mg_core.proofs.Scans.{all_append}
 use Rattle.mg_script.specs.declared.script.ScriptLine.{ScriptLine}
 use Rattle.mg_script.specs.declared.form.Printed.TheVariants as printed
@@ -22,6 +20,8 @@ use Rattle.mg_names.specs.declared.resolving.ResolveRefused.{ResolveRefused}
 use Rattle.mg_names.specs.declared.resolving.ResolveRefused.TheVariants as resolve
 use Rattle.mg_names.specs.Resolve as resolving
 use Rattle.mg_lex.specs.declared.refusal.Refused.{Refused}
+use Rattle.mg_search.specs.Search.{IsBuilt as HasSearches}
+use Rattle.mg_search.proofs.Starts.{built_unless}
 use Rattle.mg_session.specs.Refusing.{of_resolving}
 use Rattle.mg_session.specs.declared.script.SessionRefused.TheVariants.{Script}
 use Rattle.mg_session.specs.Built.{IsBuilt, IsBuiltStep, one_worker}
@@ -47,16 +47,6 @@ pub none_so_far : (script : List ScriptLine) (i : ℕ) (line : ScriptLine) (lexe
 none_so_far script i line lexemes there at same none other =
     let more : UseNone (take i script ++ line ∷ []) = all_append (λ l. UsesOther l.lexemes → ⊥) (take i script) (line ∷ []) none ((λ uses. other (subst UsesOther (sym same) uses)), tt) in
     subst UseNone (sym (take_more script i line there ∙ ap (λ l. take i script ++ l ∷ []) (sym at))) more
-
--- a procedure is built or isn't
-plain_unless : (p : Procedure) → ((IsPlain p → ⊥) → ⊥) → IsPlain p
-plain_unless procedure.Derive h = tt
-plain_unless procedure.Act h = tt
-plain_unless procedure.Residue h = tt
-plain_unless procedure.Rewrite h = h (λ built. built)
-plain_unless procedure.Cosets h = h (λ built. built)
-plain_unless procedure.Nielsen h = h (λ built. built)
-plain_unless procedure.Recall h = h (λ built. built)
 
 -- the steps of the scope's plan are built
 abbrev AreBuilt : Scope → Type 0
@@ -101,21 +91,21 @@ question_built : (scope : Scope) (n : Named) (asking : Option Asking) → AreBui
 question_built scope n None built = built
 question_built scope n (Some asking) built = built
 
-grant_built : (scope : Scope) (p : Procedure) (units : ℕ) (object : Option Object) → IsPlain p → AreBuilt scope → AreBuilt (grants scope p units object)
-grant_built scope p units None plain built = built
-grant_built scope p units (Some (a_group place)) plain built = built
-grant_built scope p units (Some (a_word home u)) plain built = built
-grant_built scope p units (Some (a_subgroup place words)) plain built = built
-grant_built scope p units (Some (a_map from to images)) plain built = built
-grant_built scope p units (Some (a_question place)) plain built = one_more scope (steps.grant place p units) built plain
+grant_built : (scope : Scope) (p : Procedure) (units : ℕ) (object : Option Object) → HasSearches p → AreBuilt scope → AreBuilt (grants scope p units object)
+grant_built scope p units None searches built = built
+grant_built scope p units (Some (a_group place)) searches built = built
+grant_built scope p units (Some (a_word home u)) searches built = built
+grant_built scope p units (Some (a_subgroup place words)) searches built = built
+grant_built scope p units (Some (a_map from to images)) searches built = built
+grant_built scope p units (Some (a_question place)) searches built = one_more scope (steps.grant place p units) built searches
 
-cancel_built : (scope : Scope) (p : Procedure) (object : Option Object) → IsPlain p → AreBuilt scope → AreBuilt (cancels scope p object)
-cancel_built scope p None plain built = built
-cancel_built scope p (Some (a_group place)) plain built = built
-cancel_built scope p (Some (a_word home u)) plain built = built
-cancel_built scope p (Some (a_subgroup place words)) plain built = built
-cancel_built scope p (Some (a_map from to images)) plain built = built
-cancel_built scope p (Some (a_question place)) plain built = one_more scope (steps.cancel place p) built plain
+cancel_built : (scope : Scope) (p : Procedure) (object : Option Object) → HasSearches p → AreBuilt scope → AreBuilt (cancels scope p object)
+cancel_built scope p None searches built = built
+cancel_built scope p (Some (a_group place)) searches built = built
+cancel_built scope p (Some (a_word home u)) searches built = built
+cancel_built scope p (Some (a_subgroup place words)) searches built = built
+cancel_built scope p (Some (a_map from to images)) searches built = built
+cancel_built scope p (Some (a_question place)) searches built = one_more scope (steps.cancel place p) built searches
 
 -- a statement that uses nothing that isn't built keeps the plan built
 after_built : (scope : Scope) (line : ScriptLine) (s : Statement) → IsNamed line s → (UsesOther line.lexemes → ⊥) → AreBuilt scope → AreBuilt (after scope s)
@@ -126,10 +116,10 @@ after_built scope line (mapping n source target arrows) named none built = map_b
 after_built scope line (ask n q) named none built = question_built scope n (question_named scope q) built
 after_built scope line (fund units) named none built = one_more scope (steps.fund units) built tt
 after_built scope line (grant n p units) named none built =
-    grant_built scope p units (lookup scope.names n.text) (plain_unless p (λ other. none (scripts.grants p units other named.written))) built
+    grant_built scope p units (lookup scope.names n.text) (built_unless p (λ other. none (scripts.grants p units other named.written))) built
 after_built scope line (run bound) named none built = one_more scope (steps.run bound) built tt
 after_built scope line (cancel n p) named none built =
-    cancel_built scope p (lookup scope.names n.text) (plain_unless p (λ other. none (scripts.cancels p other named.written))) built
+    cancel_built scope p (lookup scope.names n.text) (built_unless p (λ other. none (scripts.cancels p other named.written))) built
 after_built scope line (report printed.Questions) named none built = one_more scope (steps.report (length scope.plan.questions)) built tt
 after_built scope line (report printed.Facts) named none built = one_more scope steps.report_facts built tt
 after_built scope line (report printed.Log) named none built = one_more scope steps.report_log built tt

@@ -2,7 +2,6 @@
 use Rattle.std.proofs.Common.{◌≡◌, ℕ, zero, suc, ◌+◌, ◌<◌, ◌≤◌, ◌^◌, ◌⊎◌, inl, Bool, true, false, List, [], ◌∷◌, length, map, set, refl, ap, sym, ◌∙◌, subst, arith}
 use Rattle.std.specs.Prelude.{Some, slice_get}
 use Rattle.std.specs.List.{AllByRecursion}
-use Rattle.std.proofs.lemmas.List.{map-set}
 use Rattle.mg_core.specs.declared.entries.Entry.{Entry}
 use Rattle.mg_core.specs.Log.{Settled}
 use Rattle.mg_ledger.specs.declared.ledger.Account.{Account}
@@ -17,9 +16,8 @@ use Rattle.mg_workers.specs.Round.{even, row_of as held_row, entered, IsFit, Goe
 use Rattle.mg_workers.proofs.Events.{runs_keep}
 use Rattle.mg_certs.specs.Claim.{Fact}
 use Rattle.mg_certs.specs.Validity.{key_of, recording}
-use Rattle.mg_plain.specs.Plain.{Plain, searching as plain_searching}
-use Rattle.mg_plain.specs.Sounds.{plain_sound}
-use Rattle.mg_search.specs.Search.{Search, plain, searching, ask_of, is_open}
+use Rattle.mg_search.specs.Search.{Search, searching, ask_of, is_open}
+use Rattle.mg_search.specs.Sounds.{sound}
 use Rattle.mg_session.specs.State.{State, SearchState, accounts, ledger_of, row_taken, after_row}
 use Rattle.mg_session.specs.Run.{IsRow, after_rows, Rounds, CanGoOn, TakesPart}
 use Rattle.mg_session.specs.StateOk.{EndsSo, StandsBeside}
@@ -34,62 +32,42 @@ use Rattle.mg_ledger.specs.Ledgers.{LedgerState}
 use Rattle.mg_session.proofs.Ledger.{held_cons, spent_cons}
 use Rattle.mg_session.proofs.Phasing.{Taking}
 
--- the row of a plain search as one of any search
-abbrev lift : Row Plain → Row Search
-lift row = record {
-  search = plain row.search;
-  number = row.number;
-  held = row.held;
-  spent = row.spent;
-  allowed = row.allowed;
-  turns = row.turns;
-  read = row.read;
-  end = row.end;
-  left = row.left;
-  looked = row.looked;
-}
-
 -- the rows of searches of which some run: the others sit out
-abbrev woven : List Bool → List SearchState → List (Row Plain) → List (Row Search)
-woven (true ∷ runs) (x ∷ xs) (row ∷ rows) = lift row ∷ woven runs xs rows
+abbrev woven : List Bool → List SearchState → List (Row Search) → List (Row Search)
+woven (true ∷ runs) (x ∷ xs) (row ∷ rows) = row ∷ woven runs xs rows
 woven (true ∷ runs) (x ∷ xs) [] = row_taken true x ∷ woven runs xs []
-woven (true ∷ runs) [] rows = map lift rows
+woven (true ∷ runs) [] rows = rows
 woven (false ∷ runs) (x ∷ xs) rows = row_taken true x ∷ woven runs xs rows
-woven (false ∷ runs) [] rows = map lift rows
-woven [] xs rows = map lift rows
+woven (false ∷ runs) [] rows = rows
+woven [] xs rows = rows
 
 -- a row stands among all, whatever is written there
-record Moved (runs : List Bool) (xs : List SearchState) (rows : List (Row Plain)) (i : ℕ) (row : Row Plain) : Type 0 where
+record Moved (runs : List Bool) (xs : List SearchState) (rows : List (Row Search)) (i : ℕ) (row : Row Search) : Type 0 where
   place : ℕ
-  there : slice_get (woven runs xs rows) place ≡ Some (lift row)
-  with : (new : Row Plain) → woven runs xs (set rows i new) ≡ set (woven runs xs rows) place (lift new)
+  there : slice_get (woven runs xs rows) place ≡ Some row
+  with : (new : Row Search) → woven runs xs (set rows i new) ≡ set (woven runs xs rows) place new
 
-map_there : (rows : List (Row Plain)) (i : ℕ) (row : Row Plain) → slice_get rows i ≡ Some row → slice_get (map lift rows) i ≡ Some (lift row)
-map_there [] i row e = absurd (cc)
-map_there (r ∷ rows) zero row e = let same : r ≡ row = cc in ap (λ (v : Row Plain). Some (lift v)) same
-map_there (r ∷ rows) (suc i) row e = map_there rows i row e
-
-moved : (runs : List Bool) (xs : List SearchState) (rows : List (Row Plain)) (i : ℕ) (row : Row Plain) → slice_get rows i ≡ Some row → Moved runs xs rows i row
+moved : (runs : List Bool) (xs : List SearchState) (rows : List (Row Search)) (i : ℕ) (row : Row Search) → slice_get rows i ≡ Some row → Moved runs xs rows i row
 moved (true ∷ runs) (x ∷ xs) [] i row e = absurd (cc)
-moved (true ∷ runs) (x ∷ xs) (r ∷ rows) zero row e = let same : r ≡ row = cc in record { place = zero; there = ap (λ (v : Row Plain). Some (lift v)) same; with = λ new. refl }
+moved (true ∷ runs) (x ∷ xs) (r ∷ rows) zero row e = let same : r ≡ row = cc in record { place = zero; there = ap Some same; with = λ new. refl }
 moved (true ∷ runs) (x ∷ xs) (r ∷ rows) (suc i) row e =
-    let rest = moved runs xs rows i row e in record { place = suc rest.place; there = rest.there; with = λ new. ap (λ rs. lift r ∷ rs) (rest.with new) }
+    let rest = moved runs xs rows i row e in record { place = suc rest.place; there = rest.there; with = λ new. ap (λ rs. r ∷ rs) (rest.with new) }
 moved (false ∷ runs) (x ∷ xs) rows i row e =
     let rest = moved runs xs rows i row e in record { place = suc rest.place; there = rest.there; with = λ new. ap (λ rs. row_taken true x ∷ rs) (rest.with new) }
-moved (true ∷ runs) [] rows i row e = record { place = i; there = map_there rows i row e; with = λ new. map-set lift rows i new }
-moved (false ∷ runs) [] rows i row e = record { place = i; there = map_there rows i row e; with = λ new. map-set lift rows i new }
-moved [] xs rows i row e = record { place = i; there = map_there rows i row e; with = λ new. map-set lift rows i new }
+moved (true ∷ runs) [] rows i row e = record { place = i; there = e; with = λ new. refl }
+moved (false ∷ runs) [] rows i row e = record { place = i; there = e; with = λ new. refl }
+moved [] xs rows i row e = record { place = i; there = e; with = λ new. refl }
 
 module _ (workers : ℕ) (IsSize : ℕ → ℕ → ℕ → ℕ → Type 0) (begin : List (Entry Fact)) (runs : List Bool) (xs : List SearchState) where
-  abbrev all_rows : Running Fact Plain → Running Fact Search
+  abbrev all_rows : Running Fact Search → Running Fact Search
   all_rows now = record { rows = woven runs xs now.rows; log = now.log }
 
-  all_event : (old new : Running Fact Plain) → Event recording plain_searching workers IsSize begin old new → Event recording searching workers IsSize begin (all_rows old) (all_rows new)
+  all_event : (old new : Running Fact Search) → Event recording searching workers IsSize begin old new → Event recording searching workers IsSize begin (all_rows old) (all_rows new)
   all_event old new e =
       let there = moved runs xs old.rows e.place e.row e.of_row in
       record {
         place = there.place;
-        row = lift e.row;
+        row = e.row;
         of_row = there.there;
         stays = e.stays;
         allowed = e.allowed;
@@ -107,7 +85,7 @@ module _ (workers : ℕ) (IsSize : ℕ → ℕ → ℕ → ℕ → Type 0) (begi
         facts = e.facts;
         handed = e.handed;
         outcome = e.outcome;
-        search = plain e.search;
+        search = e.search;
         turn = e.turn;
         dropped = e.dropped;
         is_dropped = e.is_dropped;
@@ -116,30 +94,26 @@ module _ (workers : ℕ) (IsSize : ℕ → ℕ → ℕ → ℕ → Type 0) (begi
         once = e.once;
       }
 
-  all_lead : (states : List (Running Fact Plain)) (old new : Running Fact Plain) → Leads recording plain_searching workers IsSize begin old states new → Leads recording searching workers IsSize begin (all_rows old) (map all_rows states) (all_rows new)
+  all_lead : (states : List (Running Fact Search)) (old new : Running Fact Search) → Leads recording searching workers IsSize begin old states new → Leads recording searching workers IsSize begin (all_rows old) (map all_rows states) (all_rows new)
   all_lead [] old new h = ap all_rows h
   all_lead (mid ∷ states) old new h = (all_event old mid h.0, all_lead states mid new h.1)
 
-  all_run : (old new : Running Fact Plain) → Runs recording plain_searching workers IsSize begin old new → Runs recording searching workers IsSize begin (all_rows old) (all_rows new)
+  all_run : (old new : Running Fact Search) → Runs recording searching workers IsSize begin old new → Runs recording searching workers IsSize begin (all_rows old) (all_rows new)
   all_run old new h = (map all_rows h.0, all_lead h.0 old new h.1)
 
 abbrev IsFinished : Row Search → Type 0
 IsFinished row = (row.left ≡ true) ⊎ (row.allowed ≡ 0)
 
-map_over : (rows : List (Row Plain)) → AllByRecursion (λ (row : Row Plain). (row.left ≡ true) ⊎ (row.allowed ≡ 0)) rows → AllByRecursion IsFinished (map lift rows)
-map_over [] h = tt
-map_over (row ∷ rows) h = (h.0, map_over rows h.1)
-
-all_over : (runs : List Bool) (xs : List SearchState) (rows : List (Row Plain)) → AllByRecursion (λ (row : Row Plain). (row.left ≡ true) ⊎ (row.allowed ≡ 0)) rows → AllByRecursion IsFinished (woven runs xs rows)
+all_over : (runs : List Bool) (xs : List SearchState) (rows : List (Row Search)) → AllByRecursion (λ (row : Row Search). (row.left ≡ true) ⊎ (row.allowed ≡ 0)) rows → AllByRecursion IsFinished (woven runs xs rows)
 all_over (true ∷ runs) (x ∷ xs) [] h = (inl refl, all_over runs xs [] tt)
 all_over (true ∷ runs) (x ∷ xs) (row ∷ rows) h = (h.0, all_over runs xs rows h.1)
 all_over (false ∷ runs) (x ∷ xs) rows h = (inl refl, all_over runs xs rows h)
-all_over (true ∷ runs) [] rows h = map_over rows h
-all_over (false ∷ runs) [] rows h = map_over rows h
-all_over [] xs rows h = map_over rows h
+all_over (true ∷ runs) [] rows h = h
+all_over (false ∷ runs) [] rows h = h
+all_over [] xs rows h = h
 
 -- the rows of those that come into the run
-abbrev came : ℕ → List Bool → List Kept → List Account → List (Row Plain)
+abbrev came : ℕ → List Bool → List Kept → List Account → List (Row Search)
 came cell runs ks cs = map (held_row false false) (running cell runs ks cs)
 
 module _ (state : State) where
@@ -167,7 +141,7 @@ module _ (state : State) where
   InAll x = x.account.spent + x.account.held ≤ 4611686018427387904
 
   are_fit : (cell : ℕ) (runs : List Bool) (ks : List Kept) (cs : List Account) → EachPair (Taking state) (all_seen (cell + 1) ks cs) runs → AllByRecursion (λ (x : SearchState). StandsBeside state.log (row_taken true x)) (all_seen (cell + 1) ks cs) →
-      AllByRecursion InAll (all_seen (cell + 1) ks cs) → AllByRecursion (IsFit plain_searching) (came cell runs ks cs)
+      AllByRecursion InAll (all_seen (cell + 1) ks cs) → AllByRecursion (IsFit searching) (came cell runs ks cs)
   are_fit cell [] ks cs h stand within = tt
   are_fit cell (true ∷ runs) [] cs h stand within = tt
   are_fit cell (false ∷ runs) [] cs h stand within = tt
@@ -179,7 +153,7 @@ module _ (state : State) where
           within = stand.0.allowed;
           counted = stand.0.units;
           in_all = within.0;
-          openness = λ _ _. open_if (plain k.search) (cell + 1) k.end stand.0.end takes.can_go_on takes.unsettled;
+          openness = λ _ _. open_if k.search (cell + 1) k.end stand.0.end takes.can_go_on takes.unsettled;
         },
         are_fit (cell + 1) runs ks cs h.1 stand.1 within.1,
       )
@@ -192,11 +166,11 @@ each_within (x ∷ xs) most h =
     let held = held_cons x xs in
     let spent = spent_cons x xs in (omega arith, each_within xs most (omega arith))
 
-funded_of : (rows : List (Row Plain)) → AllByRecursion (IsFit plain_searching) rows → AreFunded rows
+funded_of : (rows : List (Row Search)) → AllByRecursion (IsFit searching) rows → AreFunded rows
 funded_of [] h = tt
 funded_of (row ∷ rows) h = (h.0.within, funded_of rows h.1)
 
-abbrev IsLast : Row Plain → Held Plain → Type 0
+abbrev IsLast : Row Search → Held Search → Type 0
 IsLast row held = row ≡ held_row row.left row.looked held
 
 -- those that ran are put back
@@ -204,7 +178,7 @@ module _ where
   same_account : (a : Account) → record a { held = a.held; spent = a.spent } ≡ a
   same_account a = refl
 
-  back : (cell : ℕ) (runs : List Bool) (ks : List Kept) (cs : List Account) (lasts : List (Row Plain)) (ran : List (Held Plain)) → length runs ≡ length ks → length ks ≡ length cs → EachPair (Keeps plain_searching) (came cell runs ks cs) lasts → EachPair IsLast lasts ran →
+  back : (cell : ℕ) (runs : List Bool) (ks : List Kept) (cs : List Account) (lasts : List (Row Search)) (ran : List (Held Search)) → length runs ≡ length ks → length ks ≡ length cs → EachPair (Keeps searching) (came cell runs ks cs) lasts → EachPair IsLast lasts ran →
       after_rows (all_seen (cell + 1) ks cs) (woven runs (all_seen (cell + 1) ks cs) lasts) ≡ all_seen (cell + 1) (joined (places_of runs ks) ran) (cells_after (places_of runs ks) ran cs)
   back cell [] [] cs lasts ran e f keeps last = refl
   back cell (b ∷ runs) [] cs lasts ran e f keeps last = absurd (omega arith)
@@ -214,12 +188,12 @@ module _ where
   back cell (true ∷ runs) (k ∷ ks) (c ∷ cs) (row ∷ lasts) [] e f keeps last = absurd last
   back cell (true ∷ runs) (k ∷ ks) (c ∷ cs) (row ∷ lasts) (held ∷ ran) e f keeps last =
       let rest = back (cell + 1) runs ks cs lasts ran (omega arith) (omega arith) keeps.1 last.1 in
-      ap (λ (r : Row Plain). after_row (seen (cell + 1) k c) (lift r) ∷ after_rows (all_seen (cell + 1 + 1) ks cs) (woven runs (all_seen (cell + 1 + 1) ks cs) lasts)) last.0
+      ap (λ (r : Row Search). after_row (seen (cell + 1) k c) r ∷ after_rows (all_seen (cell + 1 + 1) ks cs) (woven runs (all_seen (cell + 1 + 1) ks cs) lasts)) last.0
       ∙ ap (λ ys. seen (cell + 1) (kept_of k.question held) (account_after held c) ∷ ys) rest
   back cell (false ∷ runs) (k ∷ ks) (c ∷ cs) lasts ran e f keeps last =
       let rest = back (cell + 1) runs ks cs lasts ran (omega arith) (omega arith) keeps last in ap (λ ys. seen (cell + 1) k c ∷ ys) rest
 
-  have_spent : (cell : ℕ) (runs : List Bool) (ks : List Kept) (cs : List Account) (lasts : List (Row Plain)) (ran : List (Held Plain)) → length runs ≡ length ks → length ks ≡ length cs → EachPair (Keeps plain_searching) (came cell runs ks cs) lasts → EachPair IsLast lasts ran →
+  have_spent : (cell : ℕ) (runs : List Bool) (ks : List Kept) (cs : List Account) (lasts : List (Row Search)) (ran : List (Held Search)) → length runs ≡ length ks → length ks ≡ length cs → EachPair (Keeps searching) (came cell runs ks cs) lasts → EachPair IsLast lasts ran →
       HaveSpent (places_of runs ks) ran cs
   have_spent cell [] [] [] [] [] e f keeps last = tt
   have_spent cell [] [] [] [] (held ∷ ran) e f keeps last = absurd last
@@ -231,8 +205,8 @@ module _ where
   have_spent cell (true ∷ runs) (k ∷ ks) (c ∷ cs) [] ran e f keeps last = absurd keeps
   have_spent cell (true ∷ runs) (k ∷ ks) (c ∷ cs) (row ∷ lasts) [] e f keeps last = absurd last
   have_spent cell (true ∷ runs) (k ∷ ks) (c ∷ cs) (row ∷ lasts) (held ∷ ran) e f keeps last =
-      let spent : row.spent ≡ held.spent = ap (λ (r : Row Plain). r.spent) last.0 in
-      let held_now : row.held ≡ held.held = ap (λ (r : Row Plain). r.held) last.0 in
+      let spent : row.spent ≡ held.spent = ap (λ (r : Row Search). r.spent) last.0 in
+      let held_now : row.held ≡ held.held = ap (λ (r : Row Search). r.held) last.0 in
       let rises = keeps.0.rises in
       let balance = keeps.0.balance in
       (record { rises = omega arith; balance = omega arith }, have_spent (cell + 1) runs ks cs lasts ran (omega arith) (omega arith) keeps.1 last.1)
@@ -245,7 +219,7 @@ module _ where
   places_long (true ∷ runs) (k ∷ ks) e = ap suc (places_long runs ks (omega arith))
   places_long (false ∷ runs) (k ∷ ks) e = ap suc (places_long runs ks (omega arith))
 
-  joined_long : (places : List Place) (ran : List (Held Plain)) (cs : List Account) → HaveSpent places ran cs → length (joined places ran) ≡ length places
+  joined_long : (places : List Place) (ran : List (Held Search)) (cs : List Account) → HaveSpent places ran cs → length (joined places ran) ≡ length places
   joined_long [] ran cs h = refl
   joined_long (at_rest k ∷ places) ran [] h = absurd h
   joined_long (at_rest k ∷ places) ran (c ∷ cs) h = ap suc (joined_long places ran cs h)
@@ -253,7 +227,7 @@ module _ where
   joined_long (at_run q ∷ places) (held ∷ ran) [] h = absurd h
   joined_long (at_run q ∷ places) (held ∷ ran) (c ∷ cs) h = ap suc (joined_long places ran cs h.1)
 
-  cells_long : (places : List Place) (ran : List (Held Plain)) (cs : List Account) → HaveSpent places ran cs → length (cells_after places ran cs) ≡ length places
+  cells_long : (places : List Place) (ran : List (Held Search)) (cs : List Account) → HaveSpent places ran cs → length (cells_after places ran cs) ≡ length places
   cells_long [] ran cs h = refl
   cells_long (at_rest k ∷ places) ran [] h = absurd h
   cells_long (at_rest k ∷ places) ran (c ∷ cs) h = ap suc (cells_long places ran cs h)
@@ -261,7 +235,7 @@ module _ where
   cells_long (at_run q ∷ places) (held ∷ ran) [] h = absurd h
   cells_long (at_run q ∷ places) (held ∷ ran) (c ∷ cs) h = ap suc (cells_long places ran cs h.1)
 
-  pub have_cells : (places : List Place) (ran : List (Held Plain)) (cs : List Account) (ks' : List Kept) (cs' : List Account) → length places < 2 ^ 32 → HaveSpent places ran cs → ks' ≡ joined places ran → cs' ≡ cells_after places ran cs → HaveCells ks' cs'
+  pub have_cells : (places : List Place) (ran : List (Held Search)) (cs : List Account) (ks' : List Kept) (cs' : List Account) → length places < 2 ^ 32 → HaveSpent places ran cs → ks' ≡ joined places ran → cs' ≡ cells_after places ran cs → HaveCells ks' cs'
   have_cells places ran cs ks' cs' few h e f =
       let long = ap length e ∙ joined_long places ran cs h in
       let cells_too = ap length f ∙ cells_long places ran cs h in record { each = omega arith; few = omega arith }
@@ -288,7 +262,7 @@ module _ (state : State) (ledger : LedgerState) (ks : List Kept) (log : List (En
       seen_long n (u ∷ us) [] e = absurd (omega arith)
       seen_long n (u ∷ us) (c ∷ cs) e = ap suc (seen_long (n + 1) us cs (omega arith))
 
-  pub fit : AllByRecursion (IsFit plain_searching) (came 0 runs ks ledger.cells)
+  pub fit : AllByRecursion (IsFit searching) (came 0 runs ks ledger.cells)
   fit =
       let units_first : IsLedger (ledger_of first) = subst (λ (s : State). IsLedger (ledger_of s)) (sym is) units in
       let whole = units_first.balance.whole in
@@ -298,9 +272,9 @@ module _ (state : State) (ledger : LedgerState) (ks : List Kept) (log : List (En
   pub few : length (places_of runs ks) < 2 ^ 32
   few = let long = places_long runs ks each_run in let most = cells.few in omega arith
 
-  module _ (ran : List (Held Plain)) (log' : List (Entry Fact)) (went : GoesRound recording plain_searching (running 0 runs ks ledger.cells) log ran log') where
-    kept : EachPair (Keeps plain_searching) (came 0 runs ks ledger.cells) went.last.rows
-    kept = runs_keep recording plain_searching 1 even log plain_sound (entered (running 0 runs ks ledger.cells) log) went.last (funded_of (came 0 runs ks ledger.cells) fit) went.runs
+  module _ (ran : List (Held Search)) (log' : List (Entry Fact)) (went : GoesRound recording searching (running 0 runs ks ledger.cells) log ran log') where
+    kept : EachPair (Keeps searching) (came 0 runs ks ledger.cells) went.last.rows
+    kept = runs_keep recording searching 1 even log sound (entered (running 0 runs ks ledger.cells) log) went.last (funded_of (came 0 runs ks ledger.cells) fit) went.runs
 
     pub spent : HaveSpent (places_of runs ks) ran ledger.cells
     spent = have_spent 0 runs ks ledger.cells went.last.rows ran each_run cells.each kept went.rows_are

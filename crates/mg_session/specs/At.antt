@@ -7,7 +7,7 @@ use Rattle.mg_workers.specs.declared.held.End.{End}
 use Rattle.mg_workers.specs.Rows.{EachPair}
 use Rattle.mg_present.specs.Ask.{Inquiry}
 use Rattle.mg_names.specs.Plan.{Plan, AskOf}
-use Rattle.mg_search.specs.Search.{Search, Opens}
+use Rattle.mg_search.specs.Search.{Search, procedure_of, Opens}
 use Rattle.mg_session.specs.State.{State, SearchState, IsOf}
 use Rattle.mg_session.specs.Run.{CanGoOn, TakesPart}
 use Rattle.mg_session.specs.Session.{IsAbsent, new_search}
@@ -16,7 +16,7 @@ use Rattle.mg_session.specs.declared.state.Kept.{Kept}
 -- the search is the one of this question and procedure
 pub record IsKeptFor (question : ℕ) (procedure : Procedure) (kept : Kept) : Type 0 where
   pub of_question : kept.question ≡ question
-  pub of_procedure : kept.search.procedure ≡ procedure
+  pub of_procedure : procedure_of kept.search ≡ procedure
 
 -- the search of the question and procedure is at this place
 pub record IsSearchAt (state : State) (question : ℕ) (procedure : Procedure) (place : ℕ) : Type 0 where

@@ -4,7 +4,6 @@ use Rattle.mg_core.specs.declared.entries.Entry.{Entry}
 use Rattle.mg_ledger.specs.declared.ledger.Account.{Account}
 use Rattle.mg_ledger.specs.Ledgers.{LedgerState}
 use Rattle.mg_certs.specs.Claim.{Fact}
-use Rattle.mg_search.specs.Search.{plain}
 use Rattle.mg_session.specs.State.{State, SearchState}
 use Rattle.mg_session.specs.declared.state.Kept.{Kept}
 
@@ -13,7 +12,7 @@ abbrev pub seen : ℕ → Kept → Account → SearchState
 seen number kept account = record {
   question = kept.question;
   number = number;
-  search = plain kept.search;
+  search = kept.search;
   account = account;
   allowed = kept.allowed;
   turns = kept.turns;

@@ -12,7 +12,7 @@ use Rattle.mg_present.specs.Ask.{Inquiry}
 use Rattle.mg_names.specs.Plan.{Plan}
 use Rattle.mg_certs.specs.Claim.{Fact}
 use Rattle.mg_certs.specs.Validity.{key_of, recording}
-use Rattle.mg_search.specs.Search.{Search, plain, ask_of, searching}
+use Rattle.mg_search.specs.Search.{Search, ask_of, Reads, searching}
 use Rattle.mg_session.specs.State.{State, SearchState, Params, row_taken, after_row, give_back, ended, accounts}
 
 -- the search's Ask has a verdict in the state's log
@@ -66,10 +66,6 @@ pub record TakesPart (state : State) (search : SearchState) : Type 0 where
 -- each search is allowed what it holds, or the bound where that is less, and those that can take part run
 pub record Core (params : Params) (bound : Option ℕ) (old new : State) : Type 0 where
   pub rounds : Rounds params TakesPart (record old { searches = map (allow bound) old.searches }) new
-
--- whether a search reads models that others publish
-abbrev pub Reads : Search → Type 0
-Reads (plain search) = ⊥
 
 -- an idle search of an unsettled Ask that has allowed units, and a model of its group above what it has read
 pub record Idles (state : State) (search : SearchState) : Type 0 where

@@ -9,9 +9,9 @@ use Rattle.mg_script.specs.Script.{IsScript}
 use Rattle.mg_script.specs.Script as reading
 use Rattle.mg_script.specs.Statement.{grant, cancel, statement_lexemes}
 use Rattle.mg_names.specs.Scope.{Scope}
-use Rattle.mg_plain.specs.Plain.{IsPlain}
 use Rattle.mg_names.specs.Resolve.{Means}
 use Rattle.mg_names.specs.Resolve as resolving
+use Rattle.mg_search.specs.Search.{IsBuilt}
 use Rattle.mg_session.specs.State.{Params}
 use Rattle.mg_session.specs.Output.{Prints}
 
@@ -28,8 +28,8 @@ pub data IsRefused (bytes : List ℕ) (r : Refused) : Type 0 where
 
 -- the line grants or cancels a search by a procedure that isn't built
 pub data UsesOther (line : List Lexeme) : Type 0 where
-  grants : (p : Procedure) (units : ℕ) → (IsPlain p → ⊥) → statement_lexemes (grant p units) ≡ line → UsesOther line
-  cancels : (p : Procedure) → (IsPlain p → ⊥) → statement_lexemes (cancel p) ≡ line → UsesOther line
+  grants : (p : Procedure) (units : ℕ) → (IsBuilt p → ⊥) → statement_lexemes (grant p units) ≡ line → UsesOther line
+  cancels : (p : Procedure) → (IsBuilt p → ⊥) → statement_lexemes (cancel p) ≡ line → UsesOther line
 
 -- no line does so
 abbrev pub UseNone : List ScriptLine → Type 0

@@ -5,7 +5,6 @@ use Rattle.mg_core.specs.declared.entries.Entry.{Entry}
 use Rattle.mg_core.specs.Log.{facts_of, Settled, KeeperOf, LegalFrom}
 use Rattle.mg_ledger.specs.Ledgers.{IsLedger}
 use Rattle.mg_words.specs.declared.procedure.Procedure.{Procedure}
-use Rattle.mg_words.specs.declared.procedure.Procedure.TheVariants.{Rewrite, Cosets, Nielsen, Recall}
 use Rattle.mg_workers.specs.declared.held.End.{End}
 use Rattle.mg_workers.specs.declared.held.End.TheVariants as ends
 use Rattle.mg_workers.specs.Run.{Row}
@@ -15,6 +14,7 @@ use Rattle.mg_names.specs.Plan.{Plan, AskOf}
 use Rattle.mg_certs.specs.Claim.{Fact}
 use Rattle.mg_certs.specs.Validity.{IsValid, key_of}
 use Rattle.mg_search.specs.Search.{Search, ask_of, procedure_of, units_spent, is_open, InRow, HasPublished}
+use Rattle.mg_search.specs.Ends.{CanClose, CanIdle, CanFill}
 use Rattle.mg_session.specs.Run.{KeepsVerdict}
 use Rattle.mg_session.specs.State.{State, SearchState, ledger_of, asks, row_taken}
 
@@ -28,24 +28,6 @@ IsOpenAt ends.Found search = is_open search ≡ false
 IsOpenAt ends.Closed search = is_open search ≡ false
 IsOpenAt (ends.Full what count) search = is_open search ≡ false
 IsOpenAt ends.Stopped search = Unit {0}
-
--- a search that publishes models without a verdict
-abbrev pub CanClose : Procedure → Type 0
-CanClose Cosets = Unit {0}
-CanClose Nielsen = Unit {0}
-CanClose _ = ⊥
-
--- a search that reads models
-abbrev pub CanIdle : Procedure → Type 0
-CanIdle Recall = Unit {0}
-CanIdle _ = ⊥
-
--- a search that keeps what may pass a limit
-abbrev pub CanFill : Procedure → Type 0
-CanFill Rewrite = Unit {0}
-CanFill Cosets = Unit {0}
-CanFill Nielsen = Unit {0}
-CanFill _ = ⊥
 
 -- the searches that can end so
 abbrev pub CanEnd : End → Procedure → Type 0

@@ -4,7 +4,7 @@ ghost use Rattle.mg_present.specs.Ask.{Inquiry};
 ghost use Rattle.mg_present.specs.Applies.{Applies};
 ghost use Rattle.mg_names.specs.IsPlan.{CanBeAsked};
 ghost use Rattle.mg_names.specs.Plan.{Plan as PlanOf, AskOf, fund, grant, cancel};
-ghost use Rattle.mg_plain.specs.Plain.{IsPlain, IsStarted};
+ghost use Rattle.mg_search.specs.Search.{IsBuilt, Opens};
 ghost use Rattle.mg_session.specs.Session.{After, IsAbsent};
 ghost use Rattle.mg_session.specs.Output.{TextOf};
 ghost use Rattle.mg_session.specs.Built.{one_worker};
@@ -13,9 +13,9 @@ ghost use Rattle.mg_session.specs.At.{AreCounted, IsReady};
 use crate::state::Session;
 use mg_core::NoMemory;
 use mg_names::{Asked, Plan};
-use mg_plain::{Plain, StartRefused};
 use mg_present::Ask;
 use mg_report::{cancel_refusal, fund_refusal, grant_refusal};
+use mg_search::{Search, StartRefused};
 use mg_words::Procedure;
 use std::alloc::{AllocError, Global};
 
@@ -31,12 +31,12 @@ fn ask_at(plan: &Plan, question: u32) -> &Ask
 }
 
 /// A search that has spent nothing.
-fn start(alloc: Global, procedure: Procedure, ask: &Ask) -> Result<Plain, NoMemory>
-    requires built { IsPlain procedure }
+fn start(alloc: Global, procedure: Procedure, ask: &Ask) -> Result<Search, NoMemory>
+    requires built { IsBuilt procedure }
     requires applies { Applies procedure ask.now }
-    ensures { IfOk result (λ search. IsStarted procedure ask.now search) }
+    ensures { IfOk result (λ search. Opens procedure ask.now search) }
 {
-    match Plain::start(alloc, procedure, ask) {
+    match Search::start(alloc, procedure, ask) {
         Ok(search) => Ok(search),
         Err(StartRefused::NoMemory) => Err(AllocError),
         Err(StartRefused::DoesNotApply) => unreachable!(),
@@ -67,7 +67,7 @@ impl Session {
         units: u64,
     ) -> Result<Vec<u8>, NoMemory>
         requires asked { CanBeAsked plan.now question procedure }
-        requires built { IsPlain procedure }
+        requires built { IsBuilt procedure }
         requires few { length self.old.searches < u32.MAX }
         requires counted { AreCounted self.old }
         ensures after { OnOk result (After plan.now one_worker (grant question procedure units)
@@ -94,7 +94,7 @@ impl Session {
         procedure: Procedure,
     ) -> Result<u32, NoMemory>
         requires asked { CanBeAsked plan.now question procedure }
-        requires built { IsPlain procedure }
+        requires built { IsBuilt procedure }
         requires few { length self.old.searches < u32.MAX }
         ensures { IfOk result (λ place.
             IsReady plan.now question procedure self.old place self.new) }

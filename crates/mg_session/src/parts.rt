@@ -14,7 +14,7 @@ ghost use Rattle.mg_session.specs.declared.parts.Place.{Place as PlaceOf};
 use crate::state::{Kept, Session};
 use mg_core::NoMemory;
 use mg_ledger::{Account, Ledger};
-use mg_plain::Plain;
+use mg_search::Search;
 use mg_workers::{Held, HeldList, go_round};
 use std::alloc::Global;
 
@@ -36,11 +36,11 @@ struct Parted {
     /// The places of all.
     places: Vec<Place>,
     /// Those that run.
-    running: HeldList<Plain>,
+    running: HeldList<Search>,
 }
 
 /// A search as a run holds it.
-fn hold(kept: Kept, cell: u32, account: Account) -> Held<Plain>
+fn hold(kept: Kept, cell: u32, account: Account) -> Held<Search>
     requires { cell < u32.MAX }
     ensures { result ≡ held_of cell kept account }
 {
@@ -90,7 +90,7 @@ fn part(
 }
 
 /// A search of a question as a run leaves it.
-fn keep(question: u32, held: Held<Plain>) -> Kept
+fn keep(question: u32, held: Held<Search>) -> Kept
     ensures { result ≡ kept_of question held }
 {
     Kept {
@@ -123,7 +123,10 @@ fn take_spent(ledger: &mut Ledger, cell: u32, spent: u64)
 }
 
 /// The same searches, the last one first.
-fn turned_round(alloc: Global, mut searches: HeldList<Plain>) -> Result<Vec<Held<Plain>>, NoMemory>
+fn turned_round(
+    alloc: Global,
+    mut searches: HeldList<Search>,
+) -> Result<Vec<Held<Search>>, NoMemory>
     ensures { IfOk result (λ turned. turned.items ≡ reverse searches) }
 {
     let mut turned = Vec::new(alloc);
@@ -134,7 +137,7 @@ fn turned_round(alloc: Global, mut searches: HeldList<Plain>) -> Result<Vec<Held
 }
 
 /// The search at a place: the next of those that ran, whose cell gives what it spent, or the one that rests.
-fn put_back(ledger: &mut Ledger, cell: u32, place: Place, ran: &mut Vec<Held<Plain>>) -> Kept
+fn put_back(ledger: &mut Ledger, cell: u32, place: Place, ran: &mut Vec<Held<Search>>) -> Kept
     requires { (places : List PlaceOf) ×
         HaveSpent (place ∷ places) (reverse ran.old.items) (drop cell ledger.old.cells) }
     ensures { (places : List PlaceOf) →
@@ -158,7 +161,7 @@ fn join(
     alloc: Global,
     ledger: &mut Ledger,
     mut places: Vec<Place>,
-    ran: HeldList<Plain>,
+    ran: HeldList<Search>,
 ) -> Result<Vec<Kept>, NoMemory>
     requires few { length places.items < 2 ^ 32 }
     requires spent { HaveSpent places.items ran ledger.old.cells }

@@ -5,7 +5,6 @@ ghost use Rattle.mg_core.specs.Log.{Settled};
 ghost use Rattle.mg_ledger.specs.declared.ledger.TheConstants.{MOST_GRANTED};
 ghost use Rattle.mg_workers.specs.declared.held.End.TheVariants.{Found, Stopped};
 ghost use Rattle.mg_certs.specs.Validity.{key_of};
-ghost use Rattle.mg_search.specs.Search.{plain};
 ghost use Rattle.mg_session.specs.State.{SearchState};
 ghost use Rattle.mg_session.specs.Run.{CanGoOn, TakesPart, IsSettled, IsSettledTo, within_bound, allow as allowed};
 ghost use Rattle.mg_session.specs.Session.{IsAbsent, end_granted, end_cancelled, granted, cancelled};
@@ -15,8 +14,8 @@ ghost use Rattle.mg_session.specs.At.{IsKeptFor, IsSearchAt, MayRun, Replaces, w
 use crate::state::{Kept, Session};
 use mg_certs::Claim;
 use mg_core::{Book, NoMemory};
-use mg_plain::Plain;
 use mg_present::Ask;
+use mg_search::Search;
 use mg_turn::Searcher;
 use mg_words::Procedure;
 use mg_workers::End;
@@ -130,9 +129,9 @@ impl Session {
     }
 
     /// Adds a search that holds nothing, and answers its place.
-    pub(crate) fn add(&mut self, question: u32, search: Plain) -> Result<u32, NoMemory>
+    pub(crate) fn add(&mut self, question: u32, search: Search) -> Result<u32, NoMemory>
         requires { length self.old.searches < u32.MAX }
-        ensures added { OnOk result (self.new ≡ with_new question (plain search) self.old) }
+        ensures added { OnOk result (self.new ≡ with_new question search self.old) }
         ensures place { IfOk result (λ place. place ≡ length self.old.searches) }
     {
         self.searches.reserve(1)?;

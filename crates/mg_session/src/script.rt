@@ -10,8 +10,8 @@ use crate::session::run_plan;
 use mg_lex::{Keyword, Refused, Text};
 use mg_names::{ResolveRefused, resolve};
 use mg_script::{ParseRefused, ScriptLine, parse, procedure_of};
+use mg_search::is_built;
 use mg_terms::Lexeme;
-use mg_words::Procedure;
 use std::alloc::{AllocError, Global};
 use thiserror::Error;
 
@@ -158,9 +158,6 @@ fn is_other_name(keyword: Keyword) -> bool
 {
     match procedure_of(keyword) {
         None => false,
-        Some(Procedure::Derive) => false,
-        Some(Procedure::Act) => false,
-        Some(Procedure::Residue) => false,
-        Some(_) => true,
+        Some(procedure) => !is_built(procedure),
     }
 }

@@ -5,7 +5,7 @@ ghost use Rattle.mg_session.specs.State.{empty};
 use mg_certs::Claim;
 use mg_core::Book;
 use mg_ledger::Ledger;
-use mg_plain::Plain;
+use mg_search::Search;
 use mg_workers::End;
 use std::alloc::Global;
 use std::marker::Model;
@@ -16,7 +16,7 @@ pub(crate) struct Kept {
     /// The place of the question, from 0.
     pub(crate) question: u32,
     /// The search.
-    pub(crate) search: Plain,
+    pub(crate) search: Search,
     /// How many units it might spend in the last run and didn't.
     pub(crate) allowed: u64,
     /// How many turns it has made.

@@ -1,4 +1,4 @@
-use Rattle.mg_search.proofs.Turns.{sound}
+use Rattle.mg_search.specs.Sounds.{sound}
 use Rattle.mg_search.proofs.laws.all_turns_are_sound.Goals as goal
 
 pub returns : goal.returns

@@ -3,7 +3,7 @@ use Rattle.std.specs.List.{AllByRecursion}
 use Rattle.mg_ledger.specs.Ledgers.{LedgerState}
 use Rattle.mg_workers.specs.Round.{row_of, IsFit, GoesRound}
 use Rattle.mg_certs.specs.Validity.{recording}
-use Rattle.mg_plain.specs.Plain.{searching}
+use Rattle.mg_search.specs.Search.{searching}
 use Rattle.mg_session.specs.Parting.{places_of, joined, cells_after, HaveSpent}
 use Rattle.mg_session.proofs.Weaving.{each_run, fit, few, spent, have_cells, rounds}
 use Rattle.mg_session.proofs.state.Session.rounds.Goals as goal

@@ -1,0 +1,162 @@
+//! Searches by their kinds.
+ghost use Rattle.std.specs.Prelude.{◌≡◌, ◌+◌, ◌^◌, ◌≤◌, true, Some, IfOk, IfErr, OnOk, length};
+ghost use Rattle.std.specs.List.{AllByRecursion};
+ghost use Rattle.mg_turn.specs.Stops.{StopsBy};
+ghost use Rattle.mg_certs.specs.Validity.{group_of};
+ghost use Rattle.mg_search.specs.Search.{IsBuilt, ask_of, procedure_of, units_spent, is_open, models_wanted, SearchTurn, Opens, InRow, searching};
+ghost use Rattle.mg_search.specs.Kinds.{seen, IsNotStarted};
+ghost use Rattle.mg_search.specs.Sounds.{sound};
+
+use mg_certs::Claim;
+use mg_core::{Facts, NoMemory};
+use mg_plain::Plain;
+use mg_present::{Ask, Presentation};
+use mg_turn::{Outcome, Searcher, Stop};
+use mg_words::Procedure;
+use std::alloc::Global;
+use std::marker::Model;
+use thiserror::Error;
+
+/// The kinds of search.
+#[derive(Debug, Drop)]
+enum Kind {
+    /// A search through numbered objects.
+    Plain(Plain),
+}
+
+/// A search of any procedure that is built.
+#[derive(Debug, Drop)]
+pub struct Search {
+    kind: Kind,
+}
+
+impl Model for Search {
+    ghost use Rattle.mg_search.specs.Search.{Search};
+    ghost use Rattle.mg_search.specs.Kinds.{seen};
+
+    ghost Value = { Search };
+
+    ghost view = { λ search. seen search.kind };
+}
+
+/// Why a search isn't started.
+#[derive(Clone, Copy, Debug, PartialEq, Eq, Error)]
+pub enum StartRefused {
+    /// The procedure may not be used for the Ask.
+    #[error("the procedure does not apply")]
+    DoesNotApply,
+    /// Want of memory.
+    #[error("no memory")]
+    NoMemory,
+}
+
+impl From<mg_plain::StartRefused> for StartRefused {
+    ghost use Rattle.mg_search.specs.Kinds.{of_plain};
+
+    ghost from_gives = { λ refused told. told ≡ of_plain refused };
+
+    fn from(refused: mg_plain::StartRefused) -> StartRefused {
+        match refused {
+            mg_plain::StartRefused::DoesNotApply => StartRefused::DoesNotApply,
+            mg_plain::StartRefused::NoMemory => StartRefused::NoMemory,
+        }
+    }
+}
+
+impl Kind {
+    /// A search that has spent nothing.
+    fn start(alloc: Global, procedure: Procedure, ask: &Ask) -> Result<Kind, StartRefused>
+        requires { IsBuilt procedure }
+        ensures started { IfOk result (λ kind. Opens procedure ask.now (seen kind)) }
+        ensures refused { IfErr result (IsNotStarted procedure ask.now) }
+    {
+        match procedure {
+            Procedure::Derive | Procedure::Act | Procedure::Residue => {
+                Ok(Kind::Plain(Plain::start(alloc, procedure, ask)?))
+            }
+            _ => unreachable!(),
+        }
+    }
+}
+
+impl Search {
+    /// A search by the procedure that has spent nothing. DoesNotApply comes exactly where the procedure may not be
+    /// used for the Ask.
+    pub fn start(alloc: Global, procedure: Procedure, ask: &Ask) -> Result<Search, StartRefused>
+        requires { IsBuilt procedure }
+        ensures started { IfOk result (λ search. Opens procedure ask.now search) }
+        ensures refused { IfErr result (IsNotStarted procedure ask.now) }
+    {
+        let kind = Kind::start(alloc, procedure, ask)?;
+        Ok(Search { kind })
+    }
+
+    /// The procedure.
+    pub fn procedure(&self) -> Procedure
+        ensures { result ≡ procedure_of self.now }
+    {
+        match &self.kind {
+            Kind::Plain(search) => search.procedure(),
+        }
+    }
+
+    /// The units spent.
+    pub fn spent(&self) -> u64
+        ensures value { result ≡ units_spent self.now }
+        ensures most { result ≤ 2 ^ 62 }
+        ensures row { InRow self.now }
+    {
+        match &self.kind {
+            Kind::Plain(search) => search.cursor(),
+        }
+    }
+}
+
+impl Searcher<Claim> for Search {
+    ghost searching = { searching };
+
+    fn key(&self) -> &Ask {
+        match &self.kind {
+            Kind::Plain(search) => search.key(),
+        }
+    }
+
+    fn group(&self) -> &Presentation {
+        match &self.kind {
+            Kind::Plain(search) => search.group(),
+        }
+    }
+
+    fn wants(&self, units: u64) -> u32 {
+        match &self.kind {
+            Kind::Plain(search) => search.wants(units),
+        }
+    }
+
+    /// One turn.
+    fn turn<T: Stop<Claim>>(
+        &mut self,
+        alloc: Global,
+        units: u64,
+        facts: Facts<Claim>,
+        stop: &mut T,
+    ) -> Result<Outcome<Claim>, NoMemory>
+        requires is_open { is_open self.old ≡ true }
+        requires some_units { 1 ≤ units }
+        requires in_all { units_spent self.old + units ≤ 2 ^ 62 }
+        requires few { length facts.records ≤ models_wanted self.old units }
+        requires of_group { AllByRecursion (λ fact. group_of fact ≡
+            Some (ask_of self.old).group) facts.records }
+        ensures turns { IfOk result (λ outcome.
+            SearchTurn self.old units facts outcome self.new) }
+        ensures key { OnOk result (ask_of self.new ≡ ask_of self.old) }
+        ensures group { OnOk result ((ask_of self.new).group ≡ (ask_of self.old).group) }
+        ensures stopped { IfOk result (λ outcome. StopsBy outcome.end (T.known stop.new)) }
+    {
+        match &mut self.kind {
+            Kind::Plain(search) => search.turn(alloc, units, facts, stop),
+        }
+    }
+
+    ghost sound = { sound };
+}
