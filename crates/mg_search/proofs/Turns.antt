@@ -1,22 +1,37 @@
 -- What turns of searches keep, how they end and what they publish, whatever the procedure.
-use Rattle.std.proofs.Common.{◌≡◌, ℕ, true, List, refl, subst}
+use Rattle.std.proofs.Common.{◌≡◌, ℕ, true, List, refl, ap, sym, ◌∙◌, subst}
 use Rattle.mg_core.specs.declared.entries.Facts.{Facts}
+use Rattle.mg_turn.specs.declared.outcome.Limit.TheVariants as limit
 use Rattle.mg_turn.specs.declared.outcome.Outcome.{Outcome}
 use Rattle.mg_turn.specs.declared.outcome.TurnEnd.{TurnEnd}
 use Rattle.mg_turn.specs.declared.outcome.TurnEnd.TheVariants.{More, Found, Closed, Idle, Stopped, Full}
+use Rattle.mg_words.specs.declared.procedure.Procedure.{Procedure}
+use Rattle.mg_words.specs.declared.procedure.Procedure.TheVariants as by
 use Rattle.mg_certs.specs.Claim.{Fact}
 use Rattle.mg_plain.specs.Plain.{Plain, PlainEnd, PlainTurn}
 use Rattle.mg_plain.proofs.Turns.{turn_procedure, turn_searched, turn_publishes as plain_publishes}
-use Rattle.mg_search.specs.Search.{Search, plain, procedure_of, is_open, models_wanted, Reads, SearchTurn, InRow, HasPublished}
+use Rattle.mg_nielsen.specs.Moves.{Nielsen}
+use Rattle.mg_nielsen.specs.Turn.{NielsenEnd, NielsenTurn}
+use Rattle.mg_nielsen.proofs.Keeping.{turn_kept}
+use Rattle.mg_search.specs.Search.{Search, plain, reducing, procedure_of, is_open, models_wanted, Reads, SearchTurn, InRow, HasPublished}
 use Rattle.mg_search.specs.Ends.{MayEnd}
+
+-- a turn of a search of some kind is one of a search
+pub plain_turn : (search after : Plain) (units : ℕ) (facts : Facts Fact) (outcome : Outcome Fact) → PlainTurn search units outcome after → SearchTurn (plain search) units facts outcome (plain after)
+plain_turn search after units facts outcome turn = (after, refl, turn)
+
+pub reducing_turn : (search after : Nielsen) (units : ℕ) (facts : Facts Fact) (outcome : Outcome Fact) → NielsenTurn search units outcome after → SearchTurn (reducing search) units facts outcome (reducing after)
+reducing_turn search after units facts outcome turn = (after, refl, turn)
 
 -- a turn keeps the procedure
 pub keeps_procedure : (search : Search) (units : ℕ) (facts : Facts Fact) (outcome : Outcome Fact) (after : Search) → SearchTurn search units facts outcome after → procedure_of after ≡ procedure_of search
-keeps_procedure (plain search) units facts outcome (plain after) turn = turn_procedure search units outcome after turn
+keeps_procedure (plain search) units facts outcome after turn = ap procedure_of turn.1 ∙ turn_procedure search units outcome turn.0 turn.2
+keeps_procedure (reducing search) units facts outcome after turn = ap procedure_of turn.1
 
 -- a turn of a search that goes on keeps it in its row
 pub keeps_row : (search : Search) (units : ℕ) (facts : Facts Fact) (outcome : Outcome Fact) (after : Search) → is_open search ≡ true → SearchTurn search units facts outcome after → InRow search → InRow after
-keeps_row (plain search) units facts outcome (plain after) opened turn row = turn_searched search after units outcome opened turn row
+keeps_row (plain search) units facts outcome after opened turn row = subst InRow (sym turn.1) (turn_searched search turn.0 units outcome opened turn.2 row)
+keeps_row (reducing search) units facts outcome after opened turn row = subst InRow (sym turn.1) (turn_kept search turn.0 units outcome row turn.2)
 
 plain_may_end : (search : Plain) (units spent : ℕ) (end : TurnEnd Fact) → PlainEnd search units spent end → MayEnd end search.procedure
 plain_may_end search units spent More h = tt
@@ -26,18 +41,37 @@ plain_may_end search units spent (Closed records) h = absurd h
 plain_may_end search units spent Idle h = absurd h
 plain_may_end search units spent (Full what count) h = absurd h
 
+reducing_may_end : (search : Nielsen) (units spent : ℕ) (end : TurnEnd Fact) → NielsenEnd search units spent end → MayEnd end by.Nielsen
+reducing_may_end search units spent More h = tt
+reducing_may_end search units spent (Found records) h = tt
+reducing_may_end search units spent (Stopped seen) h = tt
+reducing_may_end search units spent (Closed records) h = tt
+reducing_may_end search units spent Idle h = absurd h
+reducing_may_end search units spent (Full what count) h = tt
+
 -- a turn ends as one of the procedure may
 pub turn_may_end : (search : Search) (units : ℕ) (facts : Facts Fact) (outcome : Outcome Fact) (after : Search) → SearchTurn search units facts outcome after → MayEnd outcome.end (procedure_of search)
-turn_may_end (plain search) units facts outcome (plain after) turn = plain_may_end search units outcome.spent outcome.end turn.end
+turn_may_end (plain search) units facts outcome after turn = plain_may_end search units outcome.spent outcome.end turn.2.end
+turn_may_end (reducing search) units facts outcome after turn = reducing_may_end turn.2.reached units outcome.spent outcome.end turn.2.end
+
+reducing_publishes : (search after : Nielsen) (units : ℕ) (outcome : Outcome Fact) (records : List Fact) → NielsenTurn search units outcome after → outcome.end ≡ Found records → HasPublished (reducing after) records
+reducing_publishes search after units outcome records turn e =
+    let ended : NielsenEnd turn.reached units outcome.spent (Found records) = subst (NielsenEnd turn.reached units outcome.spent) e turn.end in
+    subst (λ (s : Nielsen). HasPublished (reducing s) records) (sym turn.after_it) (ended.0, record { accepted = ended.1.accepted; symbols = ended.1.symbols; letters = ended.1.letters; records_are = ended.1.records_are })
 
 -- a turn that finds publishes what the search has published then
 pub turn_publishes : (search : Search) (units : ℕ) (facts : Facts Fact) (outcome : Outcome Fact) (after : Search) (records : List Fact) → is_open search ≡ true → SearchTurn search units facts outcome after → InRow search → outcome.end ≡ Found records → HasPublished after records
-turn_publishes (plain search) units facts outcome (plain after) records opened turn row e =
-    plain_publishes search after units outcome.spent records opened (subst (λ (end : TurnEnd Fact). PlainTurn search units (record { spent = outcome.spent; end = end }) after) e turn) row
+turn_publishes (plain search) units facts outcome after records opened turn row e =
+    subst (λ (s : Search). HasPublished s records) (sym turn.1)
+    (plain_publishes search turn.0 units outcome.spent records opened (subst (λ (end : TurnEnd Fact). PlainTurn search units (record { spent = outcome.spent; end = end }) turn.0) e turn.2) row)
+turn_publishes (reducing search) units facts outcome after records opened turn row e =
+    subst (λ (s : Search). HasPublished s records) (sym turn.1) (reducing_publishes search turn.0 units outcome records turn.2 e)
 
 -- no search reads models so far
 pub none_wanted : (search : Search) (units : ℕ) → models_wanted search units ≡ 0
 none_wanted (plain search) units = refl
+none_wanted (reducing search) units = refl
 
 pub none_reads : (search : Search) → Reads search → ⊥
 none_reads (plain search) reads = reads
+none_reads (reducing search) reads = reads

@@ -9,7 +9,7 @@ pub fn is_built(procedure: Procedure) -> bool
     ensures { IsTrue result ↔ IsBuilt procedure }
 {
     match procedure {
-        Procedure::Derive | Procedure::Act | Procedure::Residue => true,
-        Procedure::Rewrite | Procedure::Cosets | Procedure::Nielsen | Procedure::Recall => false,
+        Procedure::Derive | Procedure::Act | Procedure::Residue | Procedure::Nielsen => true,
+        Procedure::Rewrite | Procedure::Cosets | Procedure::Recall => false,
     }
 }

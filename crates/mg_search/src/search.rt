@@ -1,7 +1,9 @@
 //! Searches by their kinds.
-ghost use Rattle.std.specs.Prelude.{◌≡◌, ◌+◌, ◌^◌, ◌≤◌, true, Some, IfOk, IfErr, OnOk, length};
+ghost use Rattle.std.specs.Prelude.{◌≡◌, ◌↔◌, IsTrue, ◌+◌, ◌^◌, ◌≤◌, true, Some, IfOk, IfErr, OnOk, length};
 ghost use Rattle.std.specs.List.{AllByRecursion};
 ghost use Rattle.mg_turn.specs.Stops.{StopsBy};
+ghost use Rattle.mg_present.specs.Ask.{IsAsked};
+ghost use Rattle.mg_present.specs.Applies.{Applies};
 ghost use Rattle.mg_certs.specs.Validity.{group_of};
 ghost use Rattle.mg_search.specs.Search.{IsBuilt, ask_of, procedure_of, units_spent, is_open, models_wanted, SearchTurn, Opens, InRow, searching};
 ghost use Rattle.mg_search.specs.Kinds.{seen, IsNotStarted};
@@ -9,8 +11,9 @@ ghost use Rattle.mg_search.specs.Sounds.{sound};
 
 use mg_certs::Claim;
 use mg_core::{Facts, NoMemory};
+use mg_nielsen::Nielsen;
 use mg_plain::Plain;
-use mg_present::{Ask, Presentation};
+use mg_present::{Ask, Presentation, applies};
 use mg_turn::{Outcome, Searcher, Stop};
 use mg_words::Procedure;
 use std::alloc::Global;
@@ -22,6 +25,8 @@ use thiserror::Error;
 enum Kind {
     /// A search through numbered objects.
     Plain(Plain),
+    /// Nielsen reduction.
+    Reducing(Nielsen),
 }
 
 /// A search of any procedure that is built.
@@ -50,6 +55,16 @@ pub enum StartRefused {
     NoMemory,
 }
 
+impl From<NoMemory> for StartRefused {
+    ghost use Rattle.mg_search.specs.declared.search.StartRefused.TheVariants.{NoMemory};
+
+    ghost from_gives = { λ _ refused. refused ≡ NoMemory };
+
+    fn from(_: NoMemory) -> StartRefused {
+        StartRefused::NoMemory
+    }
+}
+
 impl From<mg_plain::StartRefused> for StartRefused {
     ghost use Rattle.mg_search.specs.Kinds.{of_plain};
 
@@ -63,6 +78,15 @@ impl From<mg_plain::StartRefused> for StartRefused {
     }
 }
 
+/// Whether the procedure may be used for the Ask. The Ask is looked at, and so known to be one.
+fn applies_to(procedure: Procedure, ask: &Ask) -> bool
+    ensures exact { IsTrue result ↔ Applies procedure ask.now }
+    ensures asked { IsAsked ask.now }
+{
+    let _group = ask.group();
+    applies(procedure, ask)
+}
+
 impl Kind {
     /// A search that has spent nothing.
     fn start(alloc: Global, procedure: Procedure, ask: &Ask) -> Result<Kind, StartRefused>
@@ -70,10 +94,14 @@ impl Kind {
         ensures started { IfOk result (λ kind. Opens procedure ask.now (seen kind)) }
         ensures refused { IfErr result (IsNotStarted procedure ask.now) }
     {
+        if !applies_to(procedure, ask) {
+            return Err(StartRefused::DoesNotApply);
+        }
         match procedure {
             Procedure::Derive | Procedure::Act | Procedure::Residue => {
                 Ok(Kind::Plain(Plain::start(alloc, procedure, ask)?))
             }
+            Procedure::Nielsen => Ok(Kind::Reducing(Nielsen::start(alloc, ask)?)),
             _ => unreachable!(),
         }
     }
@@ -97,17 +125,18 @@ impl Search {
     {
         match &self.kind {
             Kind::Plain(search) => search.procedure(),
+            Kind::Reducing(_) => Procedure::Nielsen,
         }
     }
 
     /// The units spent.
     pub fn spent(&self) -> u64
         ensures value { result ≡ units_spent self.now }
-        ensures most { result ≤ 2 ^ 62 }
         ensures row { InRow self.now }
     {
         match &self.kind {
             Kind::Plain(search) => search.cursor(),
+            Kind::Reducing(search) => search.spent(),
         }
     }
 }
@@ -118,22 +147,26 @@ impl Searcher<Claim> for Search {
     fn key(&self) -> &Ask {
         match &self.kind {
             Kind::Plain(search) => search.key(),
+            Kind::Reducing(search) => search.key(),
         }
     }
 
     fn group(&self) -> &Presentation {
         match &self.kind {
             Kind::Plain(search) => search.group(),
+            Kind::Reducing(search) => search.group(),
         }
     }
 
     fn wants(&self, units: u64) -> u32 {
         match &self.kind {
             Kind::Plain(search) => search.wants(units),
+            Kind::Reducing(search) => search.wants(units),
         }
     }
 
     /// One turn.
+    #[tactic(auto, using(crate::proofs::Turns::plain_turn, crate::proofs::Turns::reducing_turn))]
     fn turn<T: Stop<Claim>>(
         &mut self,
         alloc: Global,
@@ -155,6 +188,7 @@ impl Searcher<Claim> for Search {
     {
         match &mut self.kind {
             Kind::Plain(search) => search.turn(alloc, units, facts, stop),
+            Kind::Reducing(search) => search.turn(alloc, units, facts, stop),
         }
     }
 

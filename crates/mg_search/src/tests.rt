@@ -1,5 +1,5 @@
 //! Searches by each procedure. The derivation `r1 ;` shows that a^2 is one where a^2 is a relator, and has
-//! the number 21.
+//! the number 21. In the free group of a and b the word b^-1 a is the inverse of a b times a^2.
 ghost use Rattle.std.specs.Prelude.{◌≡◌, ◌+◌, ◌^◌, ◌≤◌, None, true, [], length};
 ghost use Rattle.mg_search.specs.Search.{IsBuilt, is_open, units_spent};
 
@@ -111,8 +111,36 @@ fn act_needs_a_generator(rt: HostRuntime) -> Result<(), Fail> {
 }
 
 #[test]
-fn four_procedures_are_not_built(rt: HostRuntime) -> Result<(), Fail> {
+fn nielsen_finds_one_record(rt: HostRuntime) -> Result<(), Fail> {
+    assert!(rt; finds(rt.alloc(), Procedure::Nielsen, "2 | aa ab | Ba", 1, 1));
+    Ok(())
+}
+
+// Whether the procedure is built and doesn't apply where there is a relator.
+fn needs_a_free_group(alloc: Global, procedure: Procedure) -> bool {
+    let Some(ask) = ask(alloc, "1 aa | | a") else {
+        return false;
+    };
+    if !is_built(procedure) {
+        return false;
+    }
+    matches!(
+        Search::start(alloc, procedure, &ask),
+        Err(StartRefused::DoesNotApply)
+    )
+}
+
+#[test]
+fn nielsen_needs_a_free_group(rt: HostRuntime) -> Result<(), Fail> {
+    let alloc = rt.alloc();
+    assert!(rt; needs_a_free_group(alloc, Procedure::Nielsen));
+    assert!(rt; !needs_a_free_group(alloc, Procedure::Derive));
+    Ok(())
+}
+
+#[test]
+fn three_procedures_are_not_built(rt: HostRuntime) -> Result<(), Fail> {
     assert!(rt; !is_built(Procedure::Rewrite) && !is_built(Procedure::Cosets));
-    assert!(rt; !is_built(Procedure::Nielsen) && !is_built(Procedure::Recall));
+    assert!(rt; !is_built(Procedure::Recall));
     Ok(())
 }

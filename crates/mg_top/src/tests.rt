@@ -8,6 +8,7 @@ use std::test::Fail;
 use std::thread::Threads;
 
 mod limits;
+mod reduced;
 mod refuted;
 mod rows;
 
