@@ -1,0 +1,4 @@
+mod Lists
+mod Settings
+mod Rule
+mod Told

@@ -1,0 +1,16 @@
+//! What the words of the command line ask for: one command with its values, or why they ask for none.
+#![tactic(auto)]
+
+mod command;
+mod laws;
+mod number;
+mod setting;
+mod words;
+
+pub use command::{Command, PolicyName, UsageCause};
+pub use laws::{each_list_says_one_thing, no_list_says_two};
+pub use setting::Setting;
+pub use words::read_words;
+
+#[cfg(test)]
+mod tests;
