@@ -15,7 +15,7 @@ use Rattle.mg_names.specs.Plan.{Plan}
 use Rattle.mg_certs.specs.Claim.{Fact}
 use Rattle.mg_certs.specs.Validity.{key_of}
 use Rattle.mg_plain.specs.Plain.{AcceptedBy, Publishes, IsPlain}
-use Rattle.mg_search.specs.Search.{Search, ask_of, procedure_of, TestsNumbered, is_open as goes_on}
+use Rattle.mg_search.specs.Search.{Search, ask_of, procedure_of, HasPublished, TestsNumbered, is_open as goes_on}
 use Rattle.mg_search.proofs.Numbered.{none_passed, published_first}
 use Rattle.mg_session.specs.State.{State, SearchState, Params, row_taken}
 use Rattle.mg_session.specs.Run.{RunStep}
@@ -125,11 +125,16 @@ module _ (plan : Plan) (params : Params) (bound : Option ℕ) (old new : State) 
   spends_reach built unsettled =
       elim (plain_ends bound new.log x ran_to.0 built ran_to.2 stands_there) [ inl s ↦ absurd (unsettled s) | inr h ↦ (ran_to.0, ran_to.1, h.1) ]
 
+-- a search that keeps the verdict for its Ask has published what searches of its kind publish
+pub keeps_published : (plan : Plan) (workers : ℕ) (state : State) (i : ℕ) (x : SearchState) (entry : Entry Fact) → StateOk plan workers state → slice_get state.searches i ≡ Some x → KeeperOf key_of state.log (ask_of x.search) entry → entry.search ≡ x.number → HasPublished x.search entry.records
+keeps_published plan workers state i x entry ok there keeper same =
+    (all_at (λ (y : SearchState). StandsBeside state.log (row_taken true y)) state.searches i x ok.stand there).published entry keeper same
+
 -- a search through numbered objects that keeps the verdict for its Ask has published the object with the least number
 pub keeps_first : (plan : Plan) (workers : ℕ) (state : State) (i : ℕ) (x : SearchState) (entry : Entry Fact) → StateOk plan workers state → slice_get state.searches i ≡ Some x → TestsNumbered x.search → KeeperOf key_of state.log (ask_of x.search) entry → entry.search ≡ x.number →
     (n : ℕ) × First (AcceptedBy (procedure_of x.search) (ask_of x.search)) n × Publishes (procedure_of x.search) (ask_of x.search) n entry.records
 keeps_first plan workers state i x entry ok there tests keeper same =
-    published_first x.search entry.records tests ((all_at (λ (y : SearchState). StandsBeside state.log (row_taken true y)) state.searches i x ok.stand there).published entry keeper same)
+    published_first x.search entry.records tests (keeps_published plan workers state i x entry ok there keeper same)
 
 -- a plain search that is over has a verdict
 over_settled : (log : List (Entry Fact)) (search : Search) (number : ℕ) (end : End) → IsPlain (procedure_of search) → EndsSo log search number end → goes_on search ≡ false → Settled key_of log (ask_of search)

@@ -14,7 +14,7 @@ ghost use Rattle.mg_present.specs.Ask.{Inquiry};
 ghost use Rattle.mg_certs.specs.Claim.{Fact, Verdict};
 ghost use Rattle.mg_certs.specs.Validity.{IsValid, Accepted, IsTrueOf, key_of};
 ghost use Rattle.mg_plain.specs.Plain.{AcceptedBy, Publishes, IsPlain};
-ghost use Rattle.mg_search.specs.Search.{ask_of, procedure_of, is_open, TestsNumbered};
+ghost use Rattle.mg_search.specs.Search.{ask_of, procedure_of, is_open, HasPublished, TestsNumbered};
 ghost use Rattle.mg_report.specs.Report.{QuestionBlock};
 ghost use Rattle.mg_report.specs.Log.{EntryLine};
 ghost use Rattle.mg_report.specs.Refusals.{fund_refused, grant_refused, cancel_refused};
@@ -119,6 +119,16 @@ pub fn searches_are_over_with_a_verdict()
         is_open search.search ≡ true →
         NoneAmong (AcceptedBy (procedure_of search.search)
         (ask_of search.search)) 0 search.account.spent }
+{}
+
+/// Where a search keeps the verdict for its Ask, its entry has published what searches of its kind publish: the object with
+/// the least accepted number, or by Nielsen reduction the derivation that the signs of the goals are.
+pub fn keepers_publish_as_their_kind_does()
+    ensures { (plan : Plan) (workers : ℕ) (state : State) (place : ℕ) (search : SearchState)
+        (entry : EntryOf Fact) →
+        StateOk plan workers state → slice_get state.searches place ≡ Some search →
+        KeeperOf key_of state.log (ask_of search.search) entry → entry.search ≡ search.number →
+        HasPublished search.search entry.records }
 {}
 
 /// Where a search that tests numbered objects keeps the verdict for its Ask, its entry has published the object with the
