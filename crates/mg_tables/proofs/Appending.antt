@@ -14,7 +14,7 @@ number_append [] o (suc c) h = absurd (omega (arith, h))
 number_append (None ∷ ps) o (suc c) h = number_append ps o c (omega (arith, h))
 number_append (Some r ∷ ps) o (suc c) h = ap suc (number_append ps o c (omega (arith, h)))
 
-number_end : (ps : Places) → number ps (length ps) ≡ length (standing ps)
+pub number_end : (ps : Places) → number ps (length ps) ≡ length (standing ps)
 number_end [] = refl
 number_end (None ∷ ps) = number_end ps
 number_end (Some r ∷ ps) = ap suc (number_end ps)
@@ -105,12 +105,21 @@ module _ (m : ℕ) (ps : Places) (g : IsGapped m ps) where
     ]
   ]
 
-  old_cell : (c i d : ℕ) → cell_at longer c i ≡ Some d → cell_at ps c i ≡ Some d
+  pub old_cell : (c i d : ℕ) → cell_at longer c i ≡ Some d → cell_at ps c i ≡ Some d
   old_cell c i d e = elim (where_from c) [
     | inl h ↦ sym (longer_cell c i h) ∙ e
     | inr r ↦ elim r [
       | inl same ↦ not_some (last_empty i) (subst (λ k. cell_at longer k i ≡ Some d) same e)
       | inr past ↦ not_some (ap (λ (o : Option Row). get_or (row_or_none o) i None) (get_or_past longer c None past)) e
+    ]
+  ]
+
+  pub longer_stood : (c : ℕ) → Stands longer c → Stands ps c ⊎ (c ≡ length ps)
+  longer_stood c h = elim (where_from c) [
+    | inl below ↦ inl (subst (λ (o : Option Row). IsSome o) (get_or_append_left ps (Some (empty_row m) ∷ []) None c below) h)
+    | inr r ↦ elim r [
+      | inl same ↦ inr same
+      | inr past ↦ absurd (false≢true (subst (λ (o : Option Row). IsSome o) (get_or_past longer c None past) h))
     ]
   ]
 

@@ -83,6 +83,27 @@ leads_from ps c d x e = from (get_or ps c None) e
     from None e = none_first refl e
     from (Some r) e = refl
 
+-- where fewer rows stand, there are fewer rows
+standing_most : (a b : Places) → length a ≡ length b → ((c : ℕ) → Stands b c → Stands a c) → length (standing b) ≤ length (standing a)
+standing_most [] [] e h = omega arith
+standing_most [] (o ∷ b) e h = absurd (omega (arith, e))
+standing_most (o ∷ a) [] e h = absurd (omega (arith, e))
+standing_most (None ∷ a) (None ∷ b) e h = standing_most a b (omega (arith, e)) (λ c. h (suc c))
+standing_most (None ∷ a) (Some s ∷ b) e h = absurd (false≢true (h 0 refl))
+standing_most (Some r ∷ a) (None ∷ b) e h = omega (arith, standing_most a b (omega (arith, e)) (λ c. h (suc c)))
+standing_most (Some r ∷ a) (Some s ∷ b) e h = omega (arith, standing_most a b (omega (arith, e)) (λ c. h (suc c)))
+
+standing_fewer : (a b : Places) → length a ≡ length b → ((c : ℕ) → Stands b c → Stands a c) → (c : ℕ) → Stands a c → (Stands b c → ⊥) → length (standing b) < length (standing a)
+standing_fewer [] b e h c s out = absurd (false≢true s)
+standing_fewer (o ∷ a) [] e h c s out = absurd (omega (arith, e))
+standing_fewer (None ∷ a) (b1 ∷ b) e h zero s out = absurd (false≢true s)
+standing_fewer (Some r ∷ a) (None ∷ b) e h zero s out = omega (arith, standing_most a b (omega (arith, e)) (λ c. h (suc c)))
+standing_fewer (Some r ∷ a) (Some t ∷ b) e h zero s out = absurd (out refl)
+standing_fewer (None ∷ a) (None ∷ b) e h (suc c) s out = standing_fewer a b (omega (arith, e)) (λ d. h (suc d)) c s out
+standing_fewer (None ∷ a) (Some t ∷ b) e h (suc c) s out = absurd (false≢true (h 0 refl))
+standing_fewer (Some r ∷ a) (None ∷ b) e h (suc c) s out = omega (arith, standing_fewer a b (omega (arith, e)) (λ d. h (suc d)) c s out)
+standing_fewer (Some r ∷ a) (Some t ∷ b) e h (suc c) s out = omega (arith, standing_fewer a b (omega (arith, e)) (λ d. h (suc d)) c s out)
+
 -- when no pair is left, the rows that are left are the joined ones
 module _ (m : ℕ) (old new : Places) (p q : ℕ) (went : ℕ → ℕ) (g : IsGapped m old) (hp : Stands old p) (hq : Stands old q) (k : Collapsing m old new p q went []) where
   root_facts : (n c : ℕ) → c ≤ n → Stands old c → Stands new (root_in n new went c) × (root_in n new went c ≤ c)
@@ -290,6 +311,22 @@ module _ (m : ℕ) (old new : Places) (p q : ℕ) (went : ℕ → ℕ) (g : IsGa
       back = divided_back;
     };
   }
+
+  -- no entry of a row that stands is away
+  pub collapse_keeps : (c d : ℕ) (x : ℤ) → IsLetterOf m x → Stands new c → Leads old c x d → (e : ℕ) × Leads new c x e
+  collapse_keeps c d x l s e = (root d, subst (λ a. Leads new a x (root d)) (root_own c s) (root_leads c d x l e))
+
+  -- of the two rows one is gone
+  pub collapse_fewer : length old ≡ length new → (p ≡ q → ⊥) → length (packed new) < length (packed old)
+  collapse_fewer e apart =
+      let less : length (standing new) < length (standing old) = elim (cases_Bool (is_some (get_or new p None))) [
+        | inl sp ↦ elim (cases_Bool (is_some (get_or new q None))) [
+          | inl sq ↦ absurd (apart (sym (root_own p sp) ∙ (root_pq ∙ root_own q sq)))
+          | inr out ↦ standing_fewer old new e k.stood q hq (gone new q out)
+        ]
+        | inr out ↦ standing_fewer old new e k.stood p hp (gone new p out)
+      ] in
+      omega (arith, less, packed_length old, packed_length new)
 
 -- at the start nothing is gone
 pub collapse_start : (m : ℕ) (old : Places) (p q : ℕ) (went : ℕ → ℕ) → IsGapped m old → Collapsing m old old p q went (record { left = p; right = q } ∷ [])

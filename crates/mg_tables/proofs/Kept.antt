@@ -88,6 +88,7 @@ pub record Filled (m n p q i j : ℕ) (x : ℤ) (xs : List ℕ) (v : Gapped) : T
   pub kept : IsKept m n (set (set xs i (q + 1)) j (p + 1))
   pub table : packed (places_of (2 * m) n (set (set xs i (q + 1)) j (p + 1))) ≡ filled (packed v.places) (number v.places p) x (number v.places q)
   pub gaps_same : gaps (places_of (2 * m) n (set (set xs i (q + 1)) j (p + 1))) ≡ gaps v.places
+  pub seen_as : places_of (2 * m) n (set (set xs i (q + 1)) j (p + 1)) ≡ fill_at v.places p x q
 
 pub fill_makes : (m n p : ℕ) (x : ℤ) (q i j : ℕ) (xs : List ℕ) (v : Gapped) → seen m n xs ≡ v → IsKept m n xs →
     Stands v.places p → Stands v.places q → IsLetterOf v.generators x →
@@ -107,6 +108,7 @@ fill_makes m n p x q i j xs v s k =
       kept = fill_kept m n p x q xs k hp hq l e f;
       table = fill_table m n p x q xs k hp hq l;
       gaps_same = fill_gaps m n p x q xs k hp hq l;
+      seen_as = fill_seen m n p x q xs k hp hq l;
     })))
   where
     small : (c : ℕ) → Stands (places_of (2 * m) n xs) c → c + 1 < GONE

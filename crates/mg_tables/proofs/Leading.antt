@@ -1,22 +1,23 @@
 -- What the calls of a collapse do to any collapse that the numbers are.
-use Rattle.std.proofs.Common.{◌≡◌, ℕ, zero, suc, ◌+◌, ◌*◌, ◌<◌, ◌≤◌, ℤ, List, [], ◌∷◌, ◌++◌, length, get_or, take, Option, Some, None, true, refl, sym, ap, subst, ◌∙◌, inl, inr, arith}
+use Rattle.std.proofs.Common.{◌≡◌, ◌≢◌, ℕ, zero, suc, ◌+◌, ◌*◌, ◌<◌, ◌≤◌, ℤ, List, [], ◌∷◌, ◌++◌, length, get_or, take, Option, Some, None, true, refl, sym, ap, subst, ◌∙◌, ◌⊎◌, inl, inr, arith}
 use Rattle.std.specs.Prelude.{IsSome, neg_ℤ, is_none}
 use Rattle.std.specs.List.{AllByRecursion}
 use Rattle.std.proofs.lemmas.Bool.{cases_eq, cases_lt, false≢true}
 use Rattle.std.proofs.lemmas.List.{get_or_past, take-append-le, take_all}
 use Rattle.mg_words.specs.Letter.{IsLetterOf}
 use Rattle.mg_tables.specs.Table.{Row, column}
-use Rattle.mg_tables.specs.Gaps.{Places, Gapped, Stands, gaps, number, packed, standing, row_at, cell_at, fill_at, cleared, without}
+use Rattle.mg_tables.specs.Gaps.{Places, Gapped, Stands, gaps, number, packed, standing, row_at, cell_at, fill_at, cleared, without, IsGapped}
 use Rattle.mg_tables.specs.Cells.{places_of, seen, IsKept}
 use Rattle.mg_tables.specs.Joining.{Joins}
 use Rattle.mg_tables.specs.Collapse.{Leads, Collapsing, IsCollapse, JoinsGone, KeepsGone, Makes, Moved, SomeCollapse, LeadsOn, went_of, left_to_do}
 use Rattle.mg_tables.specs.declared.join.Pair.{Pair}
 use Rattle.mg_tables.proofs.Gaps.{get_or_map, gaps_filled}
-use Rattle.mg_tables.proofs.Filling.{which, letter_turned, turned_twice}
+use Rattle.mg_tables.proofs.Filling.{which, at_back, letter_turned, turned_twice}
 use Rattle.mg_tables.proofs.Moving.{JoinPairs, Moves, collapse_moves, collapse_found, collapse_alike, all_push, all_pushed}
 use Rattle.mg_tables.proofs.Cells.{places_length}
-use Rattle.mg_tables.proofs.Collapse.{collapse_start, collapse_joins}
-use Rattle.mg_tables.proofs.Going.{collapse_goes}
+use Rattle.mg_tables.proofs.Collapse.{collapse_start, collapse_joins, collapse_keeps, collapse_fewer}
+use Rattle.mg_tables.specs.Looking.{In, Changes, Touched}
+use Rattle.mg_tables.proofs.Going.{collapse_goes, without_cell}
 use Rattle.mg_tables.proofs.Steps.{unled}
 use Rattle.mg_tables.proofs.Clearing.{cleared_stands, cleared_stood, cleared_cell, cleared_inverse, cleared_none, cleared_gaps, front_none, gapped_cleared, move_onto, move_free}
 
@@ -59,7 +60,7 @@ standing_without (None ∷ ps) (suc go) h = standing_without ps go h
 standing_without (Some r ∷ ps) (suc go) h = ap suc (standing_without ps go h)
 
 pub moved_still : (m n keep go : ℕ) (xs : List ℕ) (before : List Pair) → IsKept m n xs → Moved m n keep go xs before xs before
-moved_still m n keep go xs before k = record { kept = k; gaps_same = refl; bare = λ i h. h; collapse = λ first p q c. c }
+moved_still m n keep go xs before k = record { kept = k; gaps_same = refl; bare = λ i h. h; collapse = λ first p q c. c; told = λ c i d e. inl e }
 
 pub moved_then : (m n keep go : ℕ) (xs ys zs : List ℕ) (a b c : List Pair) → Moved m n keep go xs a ys b → Moved m n keep go ys b zs c → Moved m n keep go xs a zs c
 moved_then m n keep go xs ys zs a b c s t = record {
@@ -67,6 +68,7 @@ moved_then m n keep go xs ys zs a b c s t = record {
   gaps_same = t.gaps_same ∙ s.gaps_same;
   bare = λ i h. t.bare i (s.bare i h);
   collapse = λ first p q k. t.collapse first p q (s.collapse first p q k);
+  told = λ e i d h. elim (t.told e i d h) [ inl mid ↦ s.told e i d mid | inr at ↦ inr at ];
 }
 
 moved_by : (m n keep go : ℕ) (xs ys : List ℕ) (before after : List Pair) → IsKept m n ys → KeepsGone m n xs ys →
@@ -74,8 +76,9 @@ moved_by : (m n keep go : ℕ) (xs ys : List ℕ) (before after : List Pair) →
     gaps (places_of (2 * m) n ys) ≡ gaps (places_of (2 * m) n xs) →
     ((i : ℕ) → cell_at (places_of (2 * m) n xs) go i ≡ None → cell_at (places_of (2 * m) n ys) go i ≡ None) →
     ((first : Places) → ((c : ℕ) → Stands (places_of (2 * m) n xs) c → Stands first c) → Stood first before → Stood first after) →
+    ((c i d : ℕ) → cell_at (places_of (2 * m) n ys) c i ≡ Some d → (cell_at (places_of (2 * m) n xs) c i ≡ Some d) ⊎ ((c ≡ keep) ⊎ (d ≡ keep))) →
     Moved m n keep go xs before ys after
-moved_by m n keep go xs ys before after kept gone moves same bare stood = record {
+moved_by m n keep go xs ys before after kept gone moves same bare stood told = record {
   kept = kept;
   gaps_same = same;
   bare = bare;
@@ -87,6 +90,7 @@ moved_by m n keep go xs ys before after kept gone moves same bare stood = record
         (λ f j. j) (λ f j. j) (λ c s out. gone c (λ h. out (moves.kept c h)));
     pairs_stood = (k.pairs_stood.0, stood first k.collapsing.stood k.pairs_stood.1);
   };
+  told = told;
 }
 
 -- the new pair stands at the end
@@ -156,6 +160,7 @@ module _ (m n : ℕ) (xs ys : List ℕ) (k : IsKept m n xs) (keep go d to : ℕ)
       (subst (λ (qs : Places). Moves m ps qs (pair keep go ∷ before) (pair keep go ∷ (before ++ pr ∷ []))) (sym mk.seen) (moves_pushed m ps cs (pair keep go) pr before moves))
       cleared_same cleared_bare
       (λ first st s. all_push (λ (e : Pair). Stands first e.left × Stands first e.right) before pr s (st pr.left hl, st pr.right hr))
+      (λ c i b h. inl (cleared_cell m ps k.gapped go x d hg l e c i b (subst (λ (qs : Places). cell_at qs c i ≡ Some b) mk.seen h)))
 
   pub onto_keep : (there : ℕ) → cell_at (places_of (2 * m) n ys) keep (column x) ≡ Some there → Moved m n keep go xs before ys (before ++ pair there to ∷ [])
   onto_keep there h =
@@ -197,6 +202,26 @@ module _ (m n : ℕ) (xs ys : List ℕ) (k : IsKept m n xs) (keep go d to : ℕ)
           | inr r ↦ elim r [ inl s ↦ absurd (omega (arith, less, s.0)) | inr same ↦ same ∙ h ]
         ]
 
+    filled_told : (c i b : ℕ) → cell_at (places_of (2 * m) n zs) c i ≡ Some b → (cell_at ps c i ≡ Some b) ⊎ ((c ≡ keep) ⊎ (b ≡ keep))
+    filled_told c i b h =
+        let sk : Stands cs keep = cleared_stands m ps k.gapped go x d hg l e keep hk in
+        let st : Stands cs to = cleared_stands m ps k.gapped go x d hg l e to to_stands in
+        let gc : IsGapped m cs = gapped_cleared m ps k.gapped go x d hg l e in
+        let now : cell_at (fill_at cs keep x to) c i ≡ Some b = subst (λ (qs : Places). cell_at qs c i ≡ Some b) seen_zs h in
+        elim (which m cs gc keep x to sk st l free_cs back_cs c i) [
+          | inl s ↦
+              let back : cell_at (fill_at cs keep x to) to (column (neg_ℤ x)) ≡ Some keep = at_back m cs gc keep x to sk st l free_cs back_cs in
+              let at : cell_at (fill_at cs keep x to) to (column (neg_ℤ x)) ≡ Some b = subst (λ a. cell_at (fill_at cs keep x to) a (column (neg_ℤ x)) ≡ Some b) s.0 (subst (λ j. cell_at (fill_at cs keep x to) c j ≡ Some b) s.1 now) in
+              inr (inr (one_some at back))
+          | inr r ↦ elim r [
+            | inl s ↦ inr (inl s.0)
+            | inr same ↦ inl (cleared_cell m ps k.gapped go x d hg l e c i b (sym same ∙ now))
+          ]
+        ]
+      where
+        one_some : {o : Option ℕ} {a b : ℕ} → o ≡ Some a → o ≡ Some b → a ≡ b
+        one_some e f = cc
+
     pub free_moved : Moved m n keep go xs before zs before
     free_moved =
         moved_by m n keep go xs zs before before mz.kept
@@ -206,6 +231,7 @@ module _ (m n : ℕ) (xs ys : List ℕ) (k : IsKept m n xs) (keep go d to : ℕ)
         (ap gaps seen_zs ∙ (gaps_filled cs keep x to (cleared_stands m ps k.gapped go x d hg l e keep hk) (cleared_stands m ps k.gapped go x d hg l e to to_stands) ∙ cleared_gaps m ps k.gapped go x d hg l e))
         (λ i h. filled_bare i (cleared_none m ps k.gapped go x d hg l e go i h))
         (λ first st s. s)
+        filled_told
 
     pub free_taken : cell_at (places_of (2 * m) n zs) go (column x) ≡ None
     free_taken = filled_bare (column x) (front_none m ps k.gapped go x d hg l e)
@@ -338,35 +364,88 @@ first_collapse m n p q xs k hp hq = record {
   pairs_stood = ((hp, hq), tt);
 }
 
-pub whole_collapse : (m n p q : ℕ) (xs ys : List ℕ) (v : Gapped) → seen m n xs ≡ v → IsKept m n xs → Stands v.places p → Stands v.places q → LeadsOn m n xs (pair p q ∷ []) ys [] →
-    IsKept m n ys × Joins v.generators (packed v.places) (number v.places p) (number v.places q) (packed (places_of (2 * m) n ys))
-whole_collapse m n p q xs ys v s k =
-    subst (λ (v : Gapped). Stands v.places p → Stands v.places q → LeadsOn m n xs (pair p q ∷ []) ys [] →
-    IsKept m n ys × Joins v.generators (packed v.places) (number v.places p) (number v.places q) (packed (places_of (2 * m) n ys))) s (λ hp hq h.
-    let c : IsCollapse m n (places_of (2 * m) n xs) p q [] ys = h (places_of (2 * m) n xs) p q (first_collapse m n p q xs k hp hq) in
-    (c.kept, collapse_joins m (places_of (2 * m) n xs) (places_of (2 * m) n ys) p q (went_of (2 * m) ys) k.gapped hp hq c.collapsing))
+-- what a call of `join` makes of a table
+pub record JoinMade (m n p q : ℕ) (ys : List ℕ) (v : Gapped) (rows : List ℕ) : Type 0 where
+  pub kept : IsKept m n ys
+  pub joined : Joins v.generators (packed v.places) (number v.places p) (number v.places q) (packed (places_of (2 * m) n ys))
+  pub count : length (places_of (2 * m) n ys) ≡ length v.places
+  pub changes : Changes v.generators v.places (places_of (2 * m) n ys) rows
+  pub stood : (c : ℕ) → Stands (places_of (2 * m) n ys) c → Stands v.places c
+  pub fewer : (p ≢ q) → length (packed (places_of (2 * m) n ys)) < length (packed v.places)
+
+pub whole_collapse : (m n p q : ℕ) (xs ys rows after : List ℕ) (v : Gapped) → seen m n xs ≡ v → IsKept m n xs → Stands v.places p → Stands v.places q → LeadsOn m n xs (pair p q ∷ []) ys [] → Touched m n xs ys rows after →
+    JoinMade m n p q ys v after
+whole_collapse m n p q xs ys rows after v s k =
+    subst (λ (v : Gapped). Stands v.places p → Stands v.places q → LeadsOn m n xs (pair p q ∷ []) ys [] → Touched m n xs ys rows after → JoinMade m n p q ys v after) s (λ hp hq h t.
+    let old : Places = places_of (2 * m) n xs in
+    let new : Places = places_of (2 * m) n ys in
+    let c : IsCollapse m n old p q [] ys = h old p q (first_collapse m n p q xs k hp hq) in
+    record {
+      kept = c.kept;
+      joined = collapse_joins m old new p q (went_of (2 * m) ys) k.gapped hp hq c.collapsing;
+      count = places_length (2 * m) n ys ∙ sym (places_length (2 * m) n xs);
+      changes = record {
+        stood = λ a st. inl (c.collapsing.stood a st);
+        kept = λ a d x l st e. collapse_keeps m old new p q (went_of (2 * m) ys) k.gapped hp hq c.collapsing a d x l st e;
+        told = t.told;
+      };
+      stood = c.collapsing.stood;
+      fewer = collapse_fewer m old new p q (went_of (2 * m) ys) k.gapped hp hq c.collapsing (places_length (2 * m) n xs ∙ sym (places_length (2 * m) n ys));
+    })
 
 pub some_first : (m n p q : ℕ) (xs : List ℕ) (v : Gapped) → seen m n xs ≡ v → IsKept m n xs → Stands v.places p → Stands v.places q → SomeCollapse m n (pair p q ∷ []) xs
 some_first m n p q xs v s k =
     subst (λ (v : Gapped). Stands v.places p → Stands v.places q → SomeCollapse m n (pair p q ∷ []) xs) s (λ hp hq.
     (places_of (2 * m) n xs, p, q, first_collapse m n p q xs k hp hq))
 
--- what a call of `join` makes of a table
-pub record JoinMade (m n p q : ℕ) (ys : List ℕ) (v : Gapped) : Type 0 where
-  pub kept : IsKept m n ys
-  pub joined : Joins v.generators (packed v.places) (number v.places p) (number v.places q) (packed (places_of (2 * m) n ys))
-  pub count : length (places_of (2 * m) n ys) ≡ length v.places
-
-pub join_makes : (m n p q len : ℕ) (xs zs ys rest : List ℕ) (a b : List Pair) (v : Gapped) → seen m n xs ≡ v → IsKept m n xs → Stands v.places p → Stands v.places q →
-    zs ≡ xs → a ≡ [] → b ≡ a ++ pair p q ∷ [] → LeadsOn m n zs b ys [] → length ys ≡ len → JoinMade m n p q (take len (ys ++ rest)) v
-join_makes m n p q len xs zs ys rest a b v s k hp hq e ea eb h long =
+pub join_makes : (m n p q len : ℕ) (xs zs ys rest rows after : List ℕ) (a b : List Pair) (v : Gapped) → seen m n xs ≡ v → IsKept m n xs → Stands v.places p → Stands v.places q →
+    zs ≡ xs → a ≡ [] → b ≡ a ++ pair p q ∷ [] → LeadsOn m n zs b ys [] → Touched m n zs ys rows after → length ys ≡ len → JoinMade m n p q (take len (ys ++ rest)) v after
+join_makes m n p q len xs zs ys rest rows after a b v s k hp hq e ea eb h t long =
     let same : b ≡ pair p q ∷ [] = eb ∙ ap (λ (ps : List Pair). ps ++ pair p q ∷ []) ea in
     let led : LeadsOn m n xs (pair p q ∷ []) ys [] =
     subst (λ (zs : List ℕ). LeadsOn m n zs (pair p q ∷ []) ys []) e (subst (λ (b : List Pair). LeadsOn m n zs b ys []) same h) in
-    let made : IsKept m n ys × Joins v.generators (packed v.places) (number v.places p) (number v.places q) (packed (places_of (2 * m) n ys)) = whole_collapse m n p q xs ys v s k hp hq led in
+    let told : Touched m n xs ys rows after = subst (λ (zs : List ℕ). Touched m n zs ys rows after) e t in
     let back : take len (ys ++ rest) ≡ ys = take-append-le len ys rest (omega (arith, long)) ∙ take_all len ys (omega (arith, long)) in
-    record {
-      kept = subst (IsKept m n) (sym back) made.0;
-      joined = subst (λ (zs : List ℕ). Joins v.generators (packed v.places) (number v.places p) (number v.places q) (packed (places_of (2 * m) n zs))) (sym back) made.1;
-      count = places_length (2 * m) n (take len (ys ++ rest)) ∙ (sym (places_length (2 * m) n xs) ∙ ap (λ (v : Gapped). length v.places) s);
-    }
+    subst (λ (zs : List ℕ). JoinMade m n p q zs v after) (sym back) (whole_collapse m n p q xs ys rows after v s k hp hq led told)
+
+-- what is put on the list
+pub in_pushed : (c x : ℕ) (xs : List ℕ) → In c xs → In c (xs ++ x ∷ [])
+in_pushed c x [] h = elim h [ ]
+in_pushed c x (y ∷ xs) (inl e) = inl e
+in_pushed c x (y ∷ xs) (inr h) = inr (in_pushed c x xs h)
+
+pub in_last : (x : ℕ) (xs : List ℕ) → In x (xs ++ x ∷ [])
+in_last x [] = inl refl
+in_last x (y ∷ xs) = inr (in_last x xs)
+
+pub touched_same : (m n : ℕ) (xs rows : List ℕ) → Touched m n xs xs rows rows
+touched_same m n xs rows = record { more = λ c h. h; told = λ c i d e. inl e }
+
+pub touched_then : (m n : ℕ) (xs ys zs a b c : List ℕ) → Touched m n xs ys a b → Touched m n ys zs b c → Touched m n xs zs a c
+touched_then m n xs ys zs a b c s t = record {
+  more = λ e h. t.more e (s.more e h);
+  told = λ e i d h. elim (t.told e i d h) [
+    | inl mid ↦ elim (s.told e i d mid) [
+      | inl old ↦ inl old
+      | inr at ↦ elim at [ inl f ↦ inr (inl (t.more e f)) | inr f ↦ inr (inr (t.more d f)) ]
+    ]
+    | inr at ↦ inr at
+  ];
+}
+
+pub merge_touched : (m n keep go : ℕ) (xs ys zs rows after : List ℕ) (before pairs : List Pair) → Stands (places_of (2 * m) n xs) go → Moved m n keep go xs before ys pairs →
+    Makes m n ys zs (without (places_of (2 * m) n ys) go) → after ≡ rows ++ keep ∷ [] → Touched m n xs zs rows after
+merge_touched m n keep go xs ys zs rows after before pairs hg s mk e =
+    subst (λ (after : List ℕ). Touched m n xs zs rows after) (sym e) (record {
+      more = λ c h. in_pushed c keep rows h;
+      told = λ c i d h.
+          let sg : Stands (places_of (2 * m) n ys) go = stands_same (places_of (2 * m) n xs) (places_of (2 * m) n ys) (sym s.gaps_same) go hg in
+          let mid : cell_at (places_of (2 * m) n ys) c i ≡ Some d = without_cell (places_of (2 * m) n ys) go sg c i d (subst (λ (qs : Places). cell_at qs c i ≡ Some d) mk.seen h) in
+          elim (s.told c i d mid) [
+            | inl old ↦ inl old
+            | inr at ↦ elim at [
+              | inl f ↦ inr (inl (subst (λ a. In a (rows ++ keep ∷ [])) (sym f) (in_last keep rows)))
+              | inr f ↦ inr (inr (subst (λ a. In a (rows ++ keep ∷ [])) (sym f) (in_last keep rows)))
+            ]
+          ];
+    })

@@ -1,6 +1,6 @@
 mod Tables
 mod Joining
-mod Complete
+pub mod Complete
 mod Gaps
 mod Filling
 mod Cells
@@ -15,3 +15,6 @@ mod Going
 mod Finding
 mod Steps
 mod Leading
+mod Looking
+mod Reaching
+mod Spotting

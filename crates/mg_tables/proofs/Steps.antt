@@ -32,7 +32,7 @@ went_set w n xs d i v c h k out =
 clash : {P : Type 0} {o : Option ℕ} {a : ℕ} → o ≡ None → o ≡ Some a → P
 clash e f = absurd cc
 
-leads_stand : (ps : Places) (c i d : ℕ) → cell_at ps c i ≡ Some d → Stands ps c
+pub leads_stand : (ps : Places) (c i d : ℕ) → cell_at ps c i ≡ Some d → Stands ps c
 leads_stand ps c i d e = from (get_or ps c None) e
   where
     from : (o : Option Row) → get_or (row_or_none o) i None ≡ Some d → IsSome o

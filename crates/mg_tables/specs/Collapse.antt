@@ -1,5 +1,5 @@
 -- A collapse on its way: rows are joined one after another, and each that goes keeps the place of the one it went to.
-use Rattle.std.specs.Prelude.{◌≡◌, ℕ, ◌+◌, ◌-◌, ◌*◌, ◌<◌, ℤ, List, ◌∷◌, length, Some, None, slice_index_or}
+use Rattle.std.specs.Prelude.{◌≡◌, ℕ, ◌+◌, ◌-◌, ◌*◌, ◌<◌, ℤ, List, ◌∷◌, length, Some, None, ◌⊎◌, slice_index_or}
 use Rattle.std.specs.List.{AllByRecursion}
 use Rattle.mg_words.specs.Letter.{IsLetterOf}
 use Rattle.mg_tables.specs.Table.{column}
@@ -71,6 +71,7 @@ pub record Moved (m n keep go : ℕ) (old : List ℕ) (before : List Pair) (new 
   pub bare : (i : ℕ) → cell_at (places_of (2 * m) n old) go i ≡ None → cell_at (places_of (2 * m) n new) go i ≡ None
   pub collapse : (first : Places) (p q : ℕ) → IsCollapse m n first p q (record { left = keep; right = go } ∷ before) old →
       IsCollapse m n first p q (record { left = keep; right = go } ∷ after) new
+  pub told : (c i d : ℕ) → cell_at (places_of (2 * m) n new) c i ≡ Some d → (cell_at (places_of (2 * m) n old) c i ≡ Some d) ⊎ ((c ≡ keep) ⊎ (d ≡ keep))
 
 -- how much is left to do: each row that stands may still bring as many pairs as it has entries
 abbrev pub left_to_do : ℕ → ℕ → List ℕ → List Pair → ℕ

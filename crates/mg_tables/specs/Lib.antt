@@ -6,3 +6,5 @@ pub mod Gaps
 pub mod Cells
 pub mod Scan
 pub mod Collapse
+pub mod Looking
+pub mod Enumerating

@@ -4,6 +4,7 @@ ghost use Rattle.mg_words.specs.Letter.{IsLetterOf};
 ghost use Rattle.mg_tables.specs.Table.{column};
 ghost use Rattle.mg_tables.specs.Gaps.{Places, Stands, cell_at, cleared, fill_at, without};
 ghost use Rattle.mg_tables.specs.Cells.{places_of, IsKept};
+ghost use Rattle.mg_tables.specs.Looking.{Touched};
 ghost use Rattle.mg_tables.specs.Collapse.{IsCollapse, JoinsGone, Leads, KeepsGone, Makes, Moved, SomeCollapse, LeadsOn, went_of, left_to_do};
 
 use crate::table::{GONE, column_of, index};
@@ -39,7 +40,7 @@ fn find(generators: u32, places: u32, entries: &[u32], place: u32) -> u32
 }
 
 // The letter of a column.
-fn letter_at(place: usize, generators: u32) -> Letter
+pub(crate) fn letter_at(place: usize, generators: u32) -> Letter
     requires few { generators ≤ 64 }
     requires below { place < 2 * generators }
     ensures column { column result ≡ place }
@@ -195,12 +196,13 @@ fn move_row(
     Ok(())
 }
 
-// Lets a row go to a lower one.
+// Lets a row go to a lower one, which is put on the list of rows that have got entries.
 fn merge(
     generators: u32,
     places: u32,
     entries: &mut [u32],
     pairs: &mut Vec<Pair>,
+    touched: &mut Vec<u32>,
     keep: u32,
     go: u32,
 ) -> Result<(), NoMemory>
@@ -212,7 +214,10 @@ fn merge(
         (record { left = keep; right = go } ∷ pairs.old.items) entries.new pairs.new.items) }
     ensures less { OnOk result (left_to_do generators places entries.new pairs.new.items
         ≤ left_to_do generators places entries.old pairs.old.items) }
+    ensures touched { OnOk result (Touched generators places entries.old entries.new
+        touched.old.items touched.new.items) }
 {
+    touched.push(keep)?;
     move_row(generators, places, entries, pairs, keep, go)?;
     mark(generators, places, entries, keep, go);
     Ok(())
@@ -224,6 +229,7 @@ fn join_pair(
     places: u32,
     entries: &mut [u32],
     pairs: &mut Vec<Pair>,
+    touched: &mut Vec<u32>,
     pair: Pair,
 ) -> Result<(), NoMemory>
     requires { SomeCollapse generators places (pair ∷ pairs.old.items) entries.old }
@@ -231,14 +237,16 @@ fn join_pair(
         (pair ∷ pairs.old.items) entries.new pairs.new.items) }
     ensures less { OnOk result (left_to_do generators places entries.new pairs.new.items
         ≤ left_to_do generators places entries.old pairs.old.items) }
+    ensures touched { OnOk result (Touched generators places entries.old entries.new
+        touched.old.items touched.new.items) }
 {
     let left = find(generators, places, entries, pair.left);
     let right = find(generators, places, entries, pair.right);
     if left < right {
-        return merge(generators, places, entries, pairs, left, right);
+        return merge(generators, places, entries, pairs, touched, left, right);
     }
     if right < left {
-        return merge(generators, places, entries, pairs, right, left);
+        return merge(generators, places, entries, pairs, touched, right, left);
     }
     Ok(())
 }
@@ -249,12 +257,16 @@ pub(crate) fn collapse(
     places: u32,
     entries: &mut [u32],
     pairs: &mut Vec<Pair>,
+    touched: &mut Vec<u32>,
 ) -> Result<(), NoMemory>
     requires { SomeCollapse generators places pairs.old.items entries.old }
-    ensures { OnOk result (LeadsOn generators places entries.old pairs.old.items entries.new []) }
+    ensures leads { OnOk result
+        (LeadsOn generators places entries.old pairs.old.items entries.new []) }
+    ensures touched { OnOk result (Touched generators places entries.old entries.new
+        touched.old.items touched.new.items) }
 {
     while let Some(pair) = pairs.pop() {
-        join_pair(generators, places, entries, pairs, pair)?;
+        join_pair(generators, places, entries, pairs, touched, pair)?;
     }
     Ok(())
 }

@@ -21,13 +21,13 @@ pub enum Forced {
 
 // How far a word leads, and to which row.
 #[derive(Clone, Copy, Debug)]
-struct Way {
-    place: usize,
-    row: u32,
+pub(crate) struct Way {
+    pub place: usize,
+    pub row: u32,
 }
 
 // How far a word leads on from a row.
-fn ahead(table: &CosetTable, word: &[Letter], row: u32) -> Way
+pub(crate) fn ahead(table: &CosetTable, word: &[Letter], row: u32) -> Way
     requires row { Stands table.now.places row }
     requires over { IsOver table.now.generators word.now }
     ensures { IsAhead table.now.places row word.now result.place result.row }
@@ -46,7 +46,7 @@ fn ahead(table: &CosetTable, word: &[Letter], row: u32) -> Way
 }
 
 // How far the inverse of a word leads from a row, but not beyond a place.
-fn behind(table: &CosetTable, word: &[Letter], row: u32, least: usize) -> Way
+pub(crate) fn behind(table: &CosetTable, word: &[Letter], row: u32, least: usize) -> Way
     requires row { Stands table.now.places row }
     requires over { IsOver table.now.generators word.now }
     requires least { least ≤ length word.now }

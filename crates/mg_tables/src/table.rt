@@ -1,9 +1,10 @@
 //! Coset tables with gaps.
-ghost use Rattle.std.specs.Prelude.{◌≡◌, ◌↔◌, ℕ, ◌+◌, ◌*◌, ◌≤◌, ◌<◌, ℤ, neg_ℤ, IsTrue, IsSome, false, List, [], ◌∷◌, ◌++◌, length, Some, None, IfOk, IfSome, OnOk, OnErr};
+ghost use Rattle.std.specs.Prelude.{◌≡◌, ◌≢◌, ◌↔◌, ℕ, ◌+◌, ◌*◌, ◌≤◌, ◌<◌, ℤ, neg_ℤ, IsTrue, IsSome, false, List, [], ◌∷◌, ◌++◌, length, Some, None, IfOk, IfSome, OnOk, OnErr};
 ghost use Rattle.std.specs.Option.{option_map};
 ghost use Rattle.mg_words.specs.Letter.{IsLetterOf};
 ghost use Rattle.mg_tables.specs.Table.{column, entry, filled, first_table, empty_row, with_row, IsTable};
-ghost use Rattle.mg_tables.specs.Gaps.{Stands, gaps, number, packed, cell_at, IsGapped};
+ghost use Rattle.mg_tables.specs.Gaps.{Stands, gaps, number, packed, cell_at, fill_at, IsGapped};
+ghost use Rattle.mg_tables.specs.Looking.{In, Changes};
 ghost use Rattle.mg_tables.specs.Joining.{Joins};
 
 use crate::join::{Pair, collapse};
@@ -83,6 +84,9 @@ impl CosetTable {
     pub fn generators(&self) -> u32
         ensures value { result ≡ self.now.generators }
         ensures table { IsTable self.now.generators (packed self.now.places) }
+        ensures gapped { IsGapped self.now.generators self.now.places }
+        ensures some { 1 ≤ result }
+        ensures few { result ≤ MOST_GENERATORS }
     {
         self.generators
     }
@@ -130,6 +134,7 @@ impl CosetTable {
         ensures table { packed self.new.places ≡ filled (packed self.old.places)
             (number self.old.places from) letter (number self.old.places to) }
         ensures gaps { gaps self.new.places ≡ gaps self.old.places }
+        ensures places { self.new.places ≡ fill_at self.old.places from letter to }
         ensures generators { self.new.generators ≡ self.old.generators }
     {
         let there = index(self.generators, from, column_of(letter));
@@ -165,6 +170,9 @@ impl CosetTable {
             (packed self.old.places) (number self.old.places from) letter) }
         ensures place { IfOk result (λ place. place ≡ length self.old.places) }
         ensures gaps { OnOk result (gaps self.new.places ≡ gaps self.old.places ++ false ∷ []) }
+        ensures places { OnOk result (self.new.places ≡ fill_at
+            (self.old.places ++ Some (empty_row self.old.generators) ∷ [])
+            from letter (length self.old.places)) }
         ensures generators { self.new.generators ≡ self.old.generators }
         ensures err { OnErr result (self.new ≡ self.old) }
     {
@@ -174,13 +182,25 @@ impl CosetTable {
         Ok(row)
     }
 
-    /// Joins two rows. Without memory the table is gone.
-    pub fn join(self, alloc: Global, first: u32, second: u32) -> Result<CosetTable, NoMemory>
+    /// Joins two rows, and puts the rows that have got entries on a list. Without memory the table is gone.
+    pub fn join(
+        self,
+        alloc: Global,
+        first: u32,
+        second: u32,
+        touched: &mut Vec<u32>,
+    ) -> Result<CosetTable, NoMemory>
         requires first { Stands self.places first }
         requires second { Stands self.places second }
         ensures table { IfOk result (λ t. Joins self.generators (packed self.places)
             (number self.places first) (number self.places second) (packed t.places)) }
         ensures places { IfOk result (λ t. length t.places ≡ length self.places) }
+        ensures more { OnOk result ((c : ℕ) → In c touched.old.items → In c touched.new.items) }
+        ensures changes { IfOk result (λ t.
+            Changes self.generators self.places t.places touched.new.items) }
+        ensures stood { IfOk result (λ t. (c : ℕ) → Stands t.places c → Stands self.places c) }
+        ensures fewer { first ≢ second → IfOk result (λ t.
+            length (packed t.places) < length (packed self.places)) }
         ensures generators { IfOk result (λ t. t.generators ≡ self.generators) }
     {
         let mut table = self;
@@ -194,6 +214,7 @@ impl CosetTable {
             table.places,
             &mut table.entries,
             &mut pairs,
+            touched,
         )?;
         Ok(table)
     }

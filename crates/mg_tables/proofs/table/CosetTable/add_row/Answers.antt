@@ -1,6 +1,6 @@
 use Rattle.std.proofs.Common.{ap, sym, ◌∙◌, ℕ, ◌≡◌, subst, Some, None, [], ◌∷◌, ◌++◌}
 use Rattle.mg_tables.specs.Table.{empty_row}
-use Rattle.mg_tables.specs.Gaps.{Places, packed, number}
+use Rattle.mg_tables.specs.Gaps.{Places, packed, number, fill_at}
 use Rattle.mg_tables.specs.Table.{entry, filled}
 use Rattle.std.specs.Prelude.{neg_ℤ}
 use Rattle.mg_tables.proofs.Kept.{empty_cell}
@@ -30,3 +30,9 @@ returns-clause-table c =
     (c.fill.ensures.table
     ∙ (ap (λ (qs : Places). filled (packed qs) (number qs c.args.from) c.args.letter (number qs c.places-row.result)) c.in_ok-push_row.ensures.row
     ∙ ap (λ k. filled (packed (ps ++ Some (empty_row m) ∷ [])) (number (ps ++ Some (empty_row m) ∷ []) c.args.from) c.args.letter (number (ps ++ Some (empty_row m) ∷ []) k)) c.places-row.ensures.value))
+
+pub returns-clause-places : goal.returns-clause-places
+returns-clause-places c =
+    c.fill.ensures.places
+    ∙ (ap (λ (qs : Places). fill_at qs c.args.from c.args.letter c.places-row.result) c.in_ok-push_row.ensures.row
+    ∙ ap (λ k. fill_at (c.args.self.now.places ++ Some (empty_row c.args.self.now.generators) ∷ []) c.args.from c.args.letter k) c.places-row.ensures.value)

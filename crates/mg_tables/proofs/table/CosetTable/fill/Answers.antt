@@ -51,3 +51,10 @@ returns-clause-gaps c =
     (c.index-there.ensures ∙ ap (λ k. c.args.from * (2 * c.self.inside.generators) + k) c.column_of.ensures.column)
     (c.index-back.ensures ∙ ap (λ k. c.args.to * (2 * c.self.inside.generators) + k) (c.column_of-2.ensures.column ∙ ap column c.inverted.ensures)) in
     made.gaps_same
+
+pub returns-clause-places : goal.returns-clause-places
+returns-clause-places c =
+    let made = fill_makes c.self.inside.generators c.self.inside.places c.args.from c.args.letter c.args.to c.index-there.result c.index-back.result c.self.inside.entries.items c.args.self.now c.self.view_is c.self.invariant c.requires.from c.requires.to c.requires.letter c.requires.empty c.requires.back
+    (c.index-there.ensures ∙ ap (λ k. c.args.from * (2 * c.self.inside.generators) + k) c.column_of.ensures.column)
+    (c.index-back.ensures ∙ ap (λ k. c.args.to * (2 * c.self.inside.generators) + k) (c.column_of-2.ensures.column ∙ ap column c.inverted.ensures)) in
+    made.seen_as

@@ -13,12 +13,24 @@ collapse-requires c =
 
 pub invariant_of-table : goal.invariant_of-table
 invariant_of-table c =
-    (join_makes c.table.inside.generators c.table.inside.places c.args.first c.args.second c.table.inside.entries.len c.table.inside.entries.items c.deref_mut.result.now c.collapse.new.entries (drop (length c.collapse.new.entries) c.table.inside.entries.items) c.new-pairs.result.items c.push.new.self.items c.args.self c.table.view_is c.table.invariant c.requires.first c.requires.second c.deref_mut.ensures.value c.new-pairs.ensures.items c.in_ok-push.ensures.items c.in_ok-collapse.ensures (omega (arith, c.collapse.auto.entries, c.deref_mut.ensures.len))).kept
+    (join_makes c.table.inside.generators c.table.inside.places c.args.first c.args.second c.table.inside.entries.len c.table.inside.entries.items c.deref_mut.result.now c.collapse.new.entries (drop (length c.collapse.new.entries) c.table.inside.entries.items) c.args.touched.now.items c.collapse.new.touched.items c.new-pairs.result.items c.push.new.self.items c.args.self c.table.view_is c.table.invariant c.requires.first c.requires.second c.deref_mut.ensures.value c.new-pairs.ensures.items c.in_ok-push.ensures.items c.in_ok-collapse.ensures.leads c.in_ok-collapse.ensures.touched (omega (arith, c.collapse.auto.entries, c.deref_mut.ensures.len))).kept
 
 pub returns-clause-table : goal.returns-clause-table
 returns-clause-table c =
-    (join_makes c.table.inside.generators c.table.inside.places c.args.first c.args.second c.table.inside.entries.len c.table.inside.entries.items c.deref_mut.result.now c.collapse.new.entries (drop (length c.collapse.new.entries) c.table.inside.entries.items) c.new-pairs.result.items c.push.new.self.items c.args.self c.table.view_is c.table.invariant c.requires.first c.requires.second c.deref_mut.ensures.value c.new-pairs.ensures.items c.in_ok-push.ensures.items c.in_ok-collapse.ensures (omega (arith, c.collapse.auto.entries, c.deref_mut.ensures.len))).joined
+    (join_makes c.table.inside.generators c.table.inside.places c.args.first c.args.second c.table.inside.entries.len c.table.inside.entries.items c.deref_mut.result.now c.collapse.new.entries (drop (length c.collapse.new.entries) c.table.inside.entries.items) c.args.touched.now.items c.collapse.new.touched.items c.new-pairs.result.items c.push.new.self.items c.args.self c.table.view_is c.table.invariant c.requires.first c.requires.second c.deref_mut.ensures.value c.new-pairs.ensures.items c.in_ok-push.ensures.items c.in_ok-collapse.ensures.leads c.in_ok-collapse.ensures.touched (omega (arith, c.collapse.auto.entries, c.deref_mut.ensures.len))).joined
 
 pub returns-clause-places : goal.returns-clause-places
 returns-clause-places c =
-    (join_makes c.table.inside.generators c.table.inside.places c.args.first c.args.second c.table.inside.entries.len c.table.inside.entries.items c.deref_mut.result.now c.collapse.new.entries (drop (length c.collapse.new.entries) c.table.inside.entries.items) c.new-pairs.result.items c.push.new.self.items c.args.self c.table.view_is c.table.invariant c.requires.first c.requires.second c.deref_mut.ensures.value c.new-pairs.ensures.items c.in_ok-push.ensures.items c.in_ok-collapse.ensures (omega (arith, c.collapse.auto.entries, c.deref_mut.ensures.len))).count
+    (join_makes c.table.inside.generators c.table.inside.places c.args.first c.args.second c.table.inside.entries.len c.table.inside.entries.items c.deref_mut.result.now c.collapse.new.entries (drop (length c.collapse.new.entries) c.table.inside.entries.items) c.args.touched.now.items c.collapse.new.touched.items c.new-pairs.result.items c.push.new.self.items c.args.self c.table.view_is c.table.invariant c.requires.first c.requires.second c.deref_mut.ensures.value c.new-pairs.ensures.items c.in_ok-push.ensures.items c.in_ok-collapse.ensures.leads c.in_ok-collapse.ensures.touched (omega (arith, c.collapse.auto.entries, c.deref_mut.ensures.len))).count
+
+pub returns-clause-changes : goal.returns-clause-changes
+returns-clause-changes c =
+    (join_makes c.table.inside.generators c.table.inside.places c.args.first c.args.second c.table.inside.entries.len c.table.inside.entries.items c.deref_mut.result.now c.collapse.new.entries (drop (length c.collapse.new.entries) c.table.inside.entries.items) c.args.touched.now.items c.collapse.new.touched.items c.new-pairs.result.items c.push.new.self.items c.args.self c.table.view_is c.table.invariant c.requires.first c.requires.second c.deref_mut.ensures.value c.new-pairs.ensures.items c.in_ok-push.ensures.items c.in_ok-collapse.ensures.leads c.in_ok-collapse.ensures.touched (omega (arith, c.collapse.auto.entries, c.deref_mut.ensures.len))).changes
+
+pub returns-clause-stood : goal.returns-clause-stood
+returns-clause-stood c =
+    (join_makes c.table.inside.generators c.table.inside.places c.args.first c.args.second c.table.inside.entries.len c.table.inside.entries.items c.deref_mut.result.now c.collapse.new.entries (drop (length c.collapse.new.entries) c.table.inside.entries.items) c.args.touched.now.items c.collapse.new.touched.items c.new-pairs.result.items c.push.new.self.items c.args.self c.table.view_is c.table.invariant c.requires.first c.requires.second c.deref_mut.ensures.value c.new-pairs.ensures.items c.in_ok-push.ensures.items c.in_ok-collapse.ensures.leads c.in_ok-collapse.ensures.touched (omega (arith, c.collapse.auto.entries, c.deref_mut.ensures.len))).stood
+
+pub returns-clause-fewer : goal.returns-clause-fewer
+returns-clause-fewer c =
+    (join_makes c.table.inside.generators c.table.inside.places c.args.first c.args.second c.table.inside.entries.len c.table.inside.entries.items c.deref_mut.result.now c.collapse.new.entries (drop (length c.collapse.new.entries) c.table.inside.entries.items) c.args.touched.now.items c.collapse.new.touched.items c.new-pairs.result.items c.push.new.self.items c.args.self c.table.view_is c.table.invariant c.requires.first c.requires.second c.deref_mut.ensures.value c.new-pairs.ensures.items c.in_ok-push.ensures.items c.in_ok-collapse.ensures.leads c.in_ok-collapse.ensures.touched (omega (arith, c.collapse.auto.entries, c.deref_mut.ensures.len))).fewer

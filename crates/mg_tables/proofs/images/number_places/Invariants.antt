@@ -1,0 +1,7 @@
+use Rattle.std.specs.Prelude.{◌≡◌}
+use Rattle.mg_tables.specs.Gaps.{number}
+use Rattle.mg_tables.proofs.Spotting.{Numbers}
+use Rattle.mg_tables.proofs.images.number_places.Given as goal
+
+abbrev pub invariant-loop-place : goal.invariant-loop-place
+invariant-loop-place l = (l.rows ≡ number l.table.places l.place) × Numbers l.table.places l.place l.numbers.items
