@@ -1,0 +1,6 @@
+mod Growing
+mod Showing
+mod Settling
+mod Taking
+mod Vanishing
+mod Starting

@@ -1,0 +1,25 @@
+//! Laws of completion. Each stands on a function without a body.
+ghost use Rattle.std.specs.Prelude.{◌≡◌, ℕ, []};
+ghost use Rattle.mg_turn.specs.Turn.{Sound};
+ghost use Rattle.mg_turn.specs.declared.outcome.Outcome.{Outcome as OutcomeOf};
+ghost use Rattle.mg_present.specs.Ask.{Inquiry, IsAsked};
+ghost use Rattle.mg_certs.specs.Claim.{Fact};
+ghost use Rattle.mg_certs.specs.Validity.{recording};
+ghost use Rattle.mg_complete.specs.Completion.{Completion as Search, IsKept, first_search};
+ghost use Rattle.mg_complete.specs.Turn.{CompletionTurn, searching};
+
+/// Every turn is one that a run may make.
+pub fn completion_turns_are_sound()
+    ensures { Sound recording searching }
+{}
+
+/// A search that has just been started keeps what searches keep.
+pub fn a_first_search_is_kept()
+    ensures { (ask : Inquiry) → IsAsked ask → ask.subgroup ≡ [] → IsKept (first_search ask) }
+{}
+
+/// Whatever turns a search has made, it keeps what searches keep.
+pub fn turns_keep_what_is_kept()
+    ensures { (search after : Search) (units : ℕ) (outcome : OutcomeOf Fact) → IsKept search →
+        CompletionTurn search units outcome after → IsKept after }
+{}
