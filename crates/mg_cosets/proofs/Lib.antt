@@ -1,0 +1,3 @@
+mod Acting
+mod Imaging
+mod Turns
