@@ -9,7 +9,8 @@ pub fn is_built(procedure: Procedure) -> bool
     ensures { IsTrue result ↔ IsBuilt procedure }
 {
     match procedure {
-        Procedure::Derive | Procedure::Act | Procedure::Residue | Procedure::Nielsen => true,
-        Procedure::Rewrite | Procedure::Cosets | Procedure::Recall => false,
+        Procedure::Derive | Procedure::Act | Procedure::Residue => true,
+        Procedure::Cosets | Procedure::Nielsen => true,
+        Procedure::Rewrite | Procedure::Recall => false,
     }
 }

@@ -5,12 +5,13 @@ ghost use Rattle.mg_turn.specs.Stops.{StopsBy};
 ghost use Rattle.mg_present.specs.Ask.{IsAsked};
 ghost use Rattle.mg_present.specs.Applies.{Applies};
 ghost use Rattle.mg_certs.specs.Validity.{group_of};
-ghost use Rattle.mg_search.specs.Search.{IsBuilt, ask_of, procedure_of, units_spent, is_open, models_wanted, SearchTurn, Opens, InRow, searching};
+ghost use Rattle.mg_search.specs.Search.{IsBuilt, ask_of, procedure_of, units_spent, is_open, models_wanted, SearchTurn, Opens, searching};
 ghost use Rattle.mg_search.specs.Kinds.{seen, IsNotStarted};
 ghost use Rattle.mg_search.specs.Sounds.{sound};
 
 use mg_certs::Claim;
 use mg_core::{Facts, NoMemory};
+use mg_cosets::Cosets;
 use mg_nielsen::Nielsen;
 use mg_plain::Plain;
 use mg_present::{Ask, Presentation, applies};
@@ -25,6 +26,8 @@ use thiserror::Error;
 enum Kind {
     /// A search through numbered objects.
     Plain(Plain),
+    /// An enumeration of cosets.
+    Enumerating(Cosets),
     /// Nielsen reduction.
     Reducing(Nielsen),
 }
@@ -101,6 +104,7 @@ impl Kind {
             Procedure::Derive | Procedure::Act | Procedure::Residue => {
                 Ok(Kind::Plain(Plain::start(alloc, procedure, ask)?))
             }
+            Procedure::Cosets => Ok(Kind::Enumerating(Cosets::start(alloc, ask)?)),
             Procedure::Nielsen => Ok(Kind::Reducing(Nielsen::start(alloc, ask)?)),
             _ => unreachable!(),
         }
@@ -125,17 +129,18 @@ impl Search {
     {
         match &self.kind {
             Kind::Plain(search) => search.procedure(),
+            Kind::Enumerating(_) => Procedure::Cosets,
             Kind::Reducing(_) => Procedure::Nielsen,
         }
     }
 
     /// The units spent.
     pub fn spent(&self) -> u64
-        ensures value { result ≡ units_spent self.now }
-        ensures row { InRow self.now }
+        ensures { result ≡ units_spent self.now }
     {
         match &self.kind {
             Kind::Plain(search) => search.cursor(),
+            Kind::Enumerating(search) => search.spent(),
             Kind::Reducing(search) => search.spent(),
         }
     }
@@ -147,6 +152,7 @@ impl Searcher<Claim> for Search {
     fn key(&self) -> &Ask {
         match &self.kind {
             Kind::Plain(search) => search.key(),
+            Kind::Enumerating(search) => search.key(),
             Kind::Reducing(search) => search.key(),
         }
     }
@@ -154,6 +160,7 @@ impl Searcher<Claim> for Search {
     fn group(&self) -> &Presentation {
         match &self.kind {
             Kind::Plain(search) => search.group(),
+            Kind::Enumerating(search) => search.group(),
             Kind::Reducing(search) => search.group(),
         }
     }
@@ -161,12 +168,13 @@ impl Searcher<Claim> for Search {
     fn wants(&self, units: u64) -> u32 {
         match &self.kind {
             Kind::Plain(search) => search.wants(units),
+            Kind::Enumerating(search) => search.wants(units),
             Kind::Reducing(search) => search.wants(units),
         }
     }
 
     /// One turn.
-    #[tactic(auto, using(crate::proofs::Turns::plain_turn, crate::proofs::Turns::reducing_turn))]
+    #[tactic(auto, using(crate::proofs::Turns::plain_turn, crate::proofs::Turns::enumerating_turn, crate::proofs::Turns::reducing_turn))]
     fn turn<T: Stop<Claim>>(
         &mut self,
         alloc: Global,
@@ -188,6 +196,7 @@ impl Searcher<Claim> for Search {
     {
         match &mut self.kind {
             Kind::Plain(search) => search.turn(alloc, units, facts, stop),
+            Kind::Enumerating(search) => search.turn(alloc, units, facts, stop),
             Kind::Reducing(search) => search.turn(alloc, units, facts, stop),
         }
     }

@@ -1,6 +1,6 @@
 //! Searches by each procedure. The derivation `r1 ;` shows that a^2 is one where a^2 is a relator, and has
 //! the number 21. In the free group of a and b the word b^-1 a is the inverse of a b times a^2.
-ghost use Rattle.std.specs.Prelude.{◌≡◌, ◌+◌, ◌^◌, ◌≤◌, None, true, [], length};
+ghost use Rattle.std.specs.Prelude.{◌≡◌, ◌+◌, ◌^◌, ◌≤◌, None, true, [], IfSome};
 ghost use Rattle.mg_search.specs.Search.{IsBuilt, is_open, units_spent};
 
 use super::*;
@@ -50,41 +50,77 @@ fn found(alloc: Global, search: &mut Search, units: u64) -> Option<usize>
     }
 }
 
-// The number of records that a new search by the procedure has found with 21 units, if it finds, and the units that
-// it has spent.
-fn found_by(alloc: Global, procedure: Procedure, ask: &Ask) -> Option<(usize, u64)>
+// A new search by the procedure.
+#[tactic(auto, using(crate::proofs::Starts::opens_open, crate::proofs::Starts::opens_unspent))]
+fn opened(alloc: Global, procedure: Procedure, ask: &Ask) -> Option<Search>
     requires { IsBuilt procedure }
+    ensures goes { IfSome result (λ search. is_open search ≡ true) }
+    ensures unspent { IfSome result (λ search. units_spent search ≡ 0) }
 {
-    let mut search = Search::start(alloc, procedure, ask).ok()?;
-    if search.procedure() != procedure || search.key() != ask || search.group() != ask.group() {
-        return None;
-    }
-    let records = found(alloc, &mut search, 21)?;
-    Some((records, search.spent()))
+    Search::start(alloc, procedure, ask).ok()
 }
 
-// Whether the procedure is built and a search by it finds this.
-fn finds(alloc: Global, procedure: Procedure, asked: &str, records: usize, units: u64) -> bool {
+// The number of records that a new search by the procedure has found with 21 units, if it finds.
+fn found_by(alloc: Global, procedure: Procedure, ask: &Ask) -> Option<usize>
+    requires { IsBuilt procedure }
+{
+    let mut search = opened(alloc, procedure, ask)?;
+    found(alloc, &mut search, 21)
+}
+
+// Whether the procedure is built and a search by it finds so many records.
+fn finds(alloc: Global, procedure: Procedure, asked: &str, records: usize) -> bool {
     let Some(ask) = ask(alloc, asked) else {
         return false;
     };
     if !is_built(procedure) {
         return false;
     }
-    found_by(alloc, procedure, &ask) == Some((records, units))
+    match found_by(alloc, procedure, &ask) {
+        Some(count) => count == records,
+        None => false,
+    }
+}
+
+// Whether the search is of the Ask, and by the procedure.
+fn is_of(search: &Search, procedure: Procedure, ask: &Ask) -> bool {
+    search.procedure() == procedure && search.key() == ask && search.group() == ask.group()
+}
+
+// Whether a search by the procedure, which is built, is of its Ask and has spent nothing.
+fn starts(alloc: Global, procedure: Procedure, asked: &str) -> bool {
+    let Some(ask) = ask(alloc, asked) else {
+        return false;
+    };
+    if !is_built(procedure) {
+        return false;
+    }
+    match opened(alloc, procedure, &ask) {
+        Some(search) => is_of(&search, procedure, &ask) && search.spent() == 0,
+        None => false,
+    }
+}
+
+#[test]
+fn searches_are_of_their_ask(rt: HostRuntime) -> Result<(), Fail> {
+    let alloc = rt.alloc();
+    assert!(rt; starts(alloc, Procedure::Derive, "1 aa | | aa"));
+    assert!(rt; starts(alloc, Procedure::Cosets, "1 aa | | aa"));
+    assert!(rt; starts(alloc, Procedure::Nielsen, "2 | aa ab | Ba"));
+    Ok(())
 }
 
 #[test]
 fn derive_finds_one_record(rt: HostRuntime) -> Result<(), Fail> {
-    assert!(rt; finds(rt.alloc(), Procedure::Derive, "1 aa | | aa", 1, 21));
+    assert!(rt; finds(rt.alloc(), Procedure::Derive, "1 aa | | aa", 1));
     Ok(())
 }
 
 #[test]
 fn act_and_residue_find_a_model_too(rt: HostRuntime) -> Result<(), Fail> {
     let alloc = rt.alloc();
-    assert!(rt; finds(alloc, Procedure::Act, "1 aa | | a", 2, 3));
-    assert!(rt; finds(alloc, Procedure::Residue, "1 aa | | a", 2, 2));
+    assert!(rt; finds(alloc, Procedure::Act, "1 aa | | a", 2));
+    assert!(rt; finds(alloc, Procedure::Residue, "1 aa | | a", 2));
     Ok(())
 }
 
@@ -112,7 +148,7 @@ fn act_needs_a_generator(rt: HostRuntime) -> Result<(), Fail> {
 
 #[test]
 fn nielsen_finds_one_record(rt: HostRuntime) -> Result<(), Fail> {
-    assert!(rt; finds(rt.alloc(), Procedure::Nielsen, "2 | aa ab | Ba", 1, 1));
+    assert!(rt; finds(rt.alloc(), Procedure::Nielsen, "2 | aa ab | Ba", 1));
     Ok(())
 }
 
@@ -139,8 +175,13 @@ fn nielsen_needs_a_free_group(rt: HostRuntime) -> Result<(), Fail> {
 }
 
 #[test]
-fn three_procedures_are_not_built(rt: HostRuntime) -> Result<(), Fail> {
-    assert!(rt; !is_built(Procedure::Rewrite) && !is_built(Procedure::Cosets));
-    assert!(rt; !is_built(Procedure::Recall));
+fn cosets_find_a_model_too(rt: HostRuntime) -> Result<(), Fail> {
+    assert!(rt; finds(rt.alloc(), Procedure::Cosets, "2 aa bbb abab | b | a", 2));
+    Ok(())
+}
+
+#[test]
+fn two_procedures_are_not_built(rt: HostRuntime) -> Result<(), Fail> {
+    assert!(rt; !is_built(Procedure::Rewrite) && !is_built(Procedure::Recall));
     Ok(())
 }

@@ -11,6 +11,7 @@ mod limits;
 mod reduced;
 mod refuted;
 mod rows;
+mod tabled;
 
 const SQUARE: &[u8] =
     b"group G = < a | a^2 >\nask q : a^2 = 1 in G\nfund 100\ngrant q derive 21\nrun\nreport\n";
