@@ -181,7 +181,7 @@ results_one rules m u v u' v' r s =
       are'.1 ∙ (ap (λ (t : Rule). other_result t s.second m.place) same ∙ (ap (λ (t : Rule). other_result r.first t m.place) same' ∙ sym are.1)),
     )
 
-meets_from : (rules : List Rule) (m : Meeting) (u v : List ℤ) → Results rules m u v → Meets rules m
+pub meets_from : (rules : List Rule) (m : Meeting) (u v : List ℤ) → Results rules m u v → Meets rules m
 meets_from rules m u v r = record {
   first = r.first;
   second = r.second;

@@ -4,3 +4,9 @@ mod Settling
 mod Taking
 mod Vanishing
 mod Starting
+mod Begun
+mod Affirming
+mod Refuting
+mod Advancing
+mod Turning
+mod AllDone

@@ -52,7 +52,7 @@ by_takes group rules number place u v r = (
   record { before = r.at.before; behind = r.at.behind; at = r.at_place; stands = r.at.stands; replaced = r.replaced },
 )
 
-told_leads : (group : Group) (rules : List Rule) (u v : List ℤ) (told : List Rewriting) → LeadsBy rules u told v → Leads group (sides rules) (by_each told) u v
+pub told_leads : (group : Group) (rules : List Rule) (u v : List ℤ) (told : List Rewriting) → LeadsBy rules u told v → Leads group (sides rules) (by_each told) u v
 told_leads group rules u v [] e = e
 told_leads group rules u v (one ∷ told) h = (h.0, by_takes group rules one.rule one.place u h.0 h.1, told_leads group rules h.0 v told h.2)
 
@@ -196,7 +196,7 @@ in_take (y ∷ xs) zero place x e = absurd (let never : None ≡ Some x = e in c
 in_take (y ∷ xs) (suc n) zero x e = (omega arith, e)
 in_take (y ∷ xs) (suc n) (suc place) x e = let r = in_take xs n place x e in (let less = r.0 in omega arith, r.1)
 
-some_at : {X : Type 0} (xs : List X) (n : ℕ) → n < length xs → (x : X) × (slice_get xs n ≡ Some x)
+pub some_at : {X : Type 0} (xs : List X) (n : ℕ) → n < length xs → (x : X) × (slice_get xs n ≡ Some x)
 some_at [] n h = absurd (omega arith)
 some_at (x ∷ xs) zero h = (x, refl)
 some_at (x ∷ xs) (suc n) h = some_at xs n (omega arith)
@@ -217,7 +217,7 @@ over_below group rules reasons fits paired given (suc n) place rule below e =
     (over_take group.generators rules place (λ k r less there. over_below group rules reasons fits paired given n k r (omega (arith, below, less)) there))
     (given place rule why.0 e why.1)
 
-all_from_places : (P : Rule → Type 0) (rules : List Rule) → ((place : ℕ) (rule : Rule) → slice_get rules place ≡ Some rule → P rule) → AllByRecursion P rules
+pub all_from_places : (P : Rule → Type 0) (rules : List Rule) → ((place : ℕ) (rule : Rule) → slice_get rules place ≡ Some rule → P rule) → AllByRecursion P rules
 all_from_places P [] each = tt
 all_from_places P (rule ∷ rules) each = (each 0 rule refl, all_from_places P rules (λ place r e. each (suc place) r e))
 

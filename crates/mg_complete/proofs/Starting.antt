@@ -104,7 +104,7 @@ no_meets m h = no_rule m.first h.first h.first_numbered
     no_rule (suc n) rule e = absurd (let no : None ≡ Some rule = e in cc)
 
 -- nothing is done of no rules
-none_done : Done [] before_all 0
+pub none_done : Done [] before_all 0
 none_done = record {
   there = inl refl;
   list = [];

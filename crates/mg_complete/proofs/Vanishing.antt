@@ -24,10 +24,10 @@ no_length [] h = refl
 no_length (x ∷ w) h = absurd (omega arith)
 
 pub goal_vanishes : (rules : List Rule) (goals : List (List ℤ)) (place : ℕ) (goal w v : List ℤ) → slice_get goals place ≡ Some goal → IsFirstDescendant rules goal v → w ≡ v → length w ≡ 0
-    → (d : List ℤ) → Descends rules (slice_index_or goals place d) []
+    → (d : List ℤ) → IsFirstDescendant rules (slice_index_or goals place d) []
 goal_vanishes rules goals place goal w v there first same none d =
     let empty : v ≡ [] = sym same ∙ no_length w none in
-    subst (λ (t : List ℤ). Descends rules t []) (sym (get_or_from_slice_get goals place goal d there)) (subst (Descends rules goal) empty (first_descends rules goal v first))
+    subst (λ (t : List ℤ). IsFirstDescendant rules t []) (sym (get_or_from_slice_get goals place goal d there)) (subst (IsFirstDescendant rules goal) empty first)
 
 pub goal_remains : (ask : Inquiry) (rules : List Rule) (place : ℕ) (goal w v : List ℤ) → slice_get ask.goals place ≡ Some goal → IsFirstDescendant rules goal v → w ≡ v → length w ≢ 0
     → Remains ask rules
@@ -40,10 +40,10 @@ goal_remains ask rules place goal w v there first same some = record {
   some = λ e. some (ap length (same ∙ e));
 }
 
-pub all_vanish : (w : Work) (count place : ℕ) → count ≡ length w.ask.goals → count ≤ place → ((k : ℕ) (d : List ℤ) → k < place → Descends w.system.rules (slice_index_or w.ask.goals k d) [])
+pub all_vanish : (w : Work) (count place : ℕ) → count ≡ length w.ask.goals → count ≤ place → ((k : ℕ) (d : List ℤ) → k < place → IsFirstDescendant w.system.rules (slice_index_or w.ask.goals k d) [])
     → AllVanish w
 all_vanish w count place e past each goal there =
-    let within = there.1 in subst (λ (t : List ℤ). Descends w.system.rules t []) there.2 (each there.0 goal (omega (arith, within, e, past)))
+    let within = there.1 in subst (λ (t : List ℤ). IsFirstDescendant w.system.rules t []) there.2 (each there.0 goal (omega (arith, within, e, past)))
 
 pub same_on : (a b c : Work) → SameWork a b → SameWork b c → SameWork a c
 same_on a b c h k = record { ask = k.ask ∙ h.ask; system = k.system ∙ h.system; last = k.last ∙ h.last; spent = k.spent ∙ h.spent }
@@ -54,11 +54,11 @@ count_on b c count k e = e ∙ ap (λ (a : Inquiry). length a.goals) (sym k.ask)
 pub system_on : (b c : Work) → SameWork b c → IsSystem b.ask.group b.system → IsSystem c.ask.group c.system
 system_on b c k s = subst (λ (a : Inquiry). IsSystem a.group c.system) (sym k.ask) (subst (IsSystem b.ask.group) (sym k.system) s)
 
-pub vanish_on : (a b : Work) (place : ℕ) → SameWork a b → ((k : ℕ) (d : List ℤ) → k < place → Descends a.system.rules (slice_index_or a.ask.goals k d) [])
-    → ((d : List ℤ) → Descends b.system.rules (slice_index_or b.ask.goals place d) []) → (k : ℕ) (d : List ℤ) → k < place + 1 → Descends a.system.rules (slice_index_or a.ask.goals k d) []
+pub vanish_on : (a b : Work) (place : ℕ) → SameWork a b → ((k : ℕ) (d : List ℤ) → k < place → IsFirstDescendant a.system.rules (slice_index_or a.ask.goals k d) [])
+    → ((d : List ℤ) → IsFirstDescendant b.system.rules (slice_index_or b.ask.goals place d) []) → (k : ℕ) (d : List ℤ) → k < place + 1 → IsFirstDescendant a.system.rules (slice_index_or a.ask.goals k d) []
 vanish_on a b place h each here k d less =
-    elim (cases_lt k place) as (λ _. Descends a.system.rules (slice_index_or a.ask.goals k d) []) [
+    elim (cases_lt k place) as (λ _. IsFirstDescendant a.system.rules (slice_index_or a.ask.goals k d) []) [
       | inl before ↦ each k d before
-      | inr past ↦ let same : place ≡ k = omega arith in subst (λ n. Descends a.system.rules (slice_index_or a.ask.goals n d) []) same
-          (subst (λ (q : Inquiry). Descends a.system.rules (slice_index_or q.goals place d) []) h.ask (subst (λ (s : System). Descends s.rules (slice_index_or b.ask.goals place d) []) h.system (here d)))
+      | inr past ↦ let same : place ≡ k = omega arith in subst (λ n. IsFirstDescendant a.system.rules (slice_index_or a.ask.goals n d) []) same
+          (subst (λ (q : Inquiry). IsFirstDescendant a.system.rules (slice_index_or q.goals place d) []) h.ask (subst (λ (s : System). IsFirstDescendant s.rules (slice_index_or b.ask.goals place d) []) h.system (here d)))
     ]

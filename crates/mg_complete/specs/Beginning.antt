@@ -1,5 +1,6 @@
 -- The beginning of the first turn. Private functions alone cite it.
-use Rattle.std.specs.Prelude.{◌≡◌, ℕ, ◌+◌, ℤ, Option, None, Some, List, []}
+use Rattle.std.specs.Prelude.{◌≡◌, ℕ, ◌+◌, ◌<◌, ℤ, neg_ℤ, Option, None, Some, List, [], ◌∷◌, slice_get}
+use Rattle.mg_words.specs.Letter.{IsLetterOf}
 use Rattle.mg_rules.specs.Rule.{Rule, Descends}
 use Rattle.mg_complete.specs.declared.system.Passed.{Passed}
 use Rattle.mg_complete.specs.declared.work.Work.{Work}
@@ -24,6 +25,19 @@ pub record Begins (before : Work) (count : ℕ) (holds : List Rule → Type 0) (
 -- the word descends to the empty word
 abbrev pub Vanishes : List ℤ → List Rule → Type 0
 Vanishes word rules = Descends rules word []
+
+-- the letters of the first so many generators, each before its inverse, descend to the empty word
+abbrev pub PairsVanish : ℕ → List Rule → Type 0
+PairsVanish generators rules = (x : ℤ) → IsLetterOf generators x → Descends rules (x ∷ neg_ℤ x ∷ []) []
+
+-- the letter and its inverse, in both orders, descend to the empty word
+abbrev pub LetterVanishes : ℤ → List Rule → Type 0
+LetterVanishes x rules = Vanishes (x ∷ neg_ℤ x ∷ []) rules × Vanishes (neg_ℤ x ∷ neg_ℤ (neg_ℤ x) ∷ []) rules
+
+-- the first so many relators descend to the empty word
+abbrev pub RelatorsVanish : List (List ℤ) → ℕ → List Rule → Type 0
+RelatorsVanish relators count rules =
+    (place : ℕ) (word : List ℤ) → place < count → slice_get relators place ≡ Some word → Descends rules word []
 
 -- the limit that would have been passed
 abbrev pub full_by : Settled → Option Passed

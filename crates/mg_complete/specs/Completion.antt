@@ -68,6 +68,10 @@ pub record Done (rules : List Rule) (last : Meeting) (count : ℕ) : Type 0 wher
   pub ranks : (m other : Meeting) → Contains list m → Meets rules other → (Contains list other → ⊥)
       → max m.first m.second ≤ max other.first other.second
 
+-- each overlap and inclusion is done
+abbrev pub AllDone : List Rule → Meeting → Type 0
+AllDone rules last = (m : Meeting) → Meets rules m → IsDone last m
+
 -- each pair and each relator descends to the empty word
 pub record Vanish (group : Group) (rules : List Rule) : Type 0 where
   pub pairs : (x : ℤ) → IsLetterOf group.generators x → Descends rules (x ∷ neg_ℤ x ∷ []) []

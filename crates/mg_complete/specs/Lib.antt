@@ -4,4 +4,7 @@ pub mod Publishing
 pub mod Turn
 pub mod Working
 pub mod Beginning
+pub mod Going
+pub mod Ending
+pub mod Holding
 pub mod Sounds

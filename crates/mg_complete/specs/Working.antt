@@ -2,7 +2,8 @@
 use Rattle.std.specs.Prelude.{◌≡◌, ◌⊎◌, ℕ, ◌+◌, ◌≤◌, ℤ, Bool, Option, None, Some, List, [], ◌∷◌, ◌++◌, length, Contains}
 use Rattle.mg_turn.specs.declared.bounds.TheConstants.{MOST_RULES, MOST_SIDE_LETTERS, MOST_LETTERS, MOST_MOVES}
 use Rattle.mg_present.specs.Presentation.{Group}
-use Rattle.mg_rules.specs.Rule.{Rule, Descends, HaveCommon, IsNormal}
+use Rattle.mg_rules.specs.Rule.{Rule, HaveCommon, IsNormal}
+use Rattle.mg_rules.specs.First.{IsFirstDescendant}
 use Rattle.mg_rules.specs.Reading.{LeadsBy}
 use Rattle.mg_rules.specs.Shortlex.{AllDecrease}
 use Rattle.mg_rules.specs.Index.{IsIndexOf}
@@ -103,9 +104,9 @@ seen w is_open begun = record {
   begun = begun;
 }
 
--- each goal descends to the empty word
+-- the first descendant of each goal is empty
 abbrev pub AllVanish : Work → Type 0
-AllVanish w = (goal : List ℤ) → Contains w.ask.goals goal → Descends w.system.rules goal []
+AllVanish w = (goal : List ℤ) → Contains w.ask.goals goal → IsFirstDescendant w.system.rules goal []
 
 -- nothing has changed but the desk and the goal that is tested first
 pub record SameWork (before after : Work) : Type 0 where

@@ -284,7 +284,7 @@ fn clear_moves(moves: &mut Moves)
 }
 
 // Takes all rewritings out; the room stays.
-fn clear_told(told: &mut Rewritings)
+pub(crate) fn clear_told(told: &mut Rewritings)
     ensures { told.new ≡ [] }
 {
     while told.pop().is_some() {}

@@ -1,6 +1,6 @@
 //! Which goals come to nothing.
 ghost use Rattle.std.specs.Prelude.{◌≡◌, ◌<◌, IsTrue, ℤ, List, [], false, IfOk, OnOk, length, slice_index_or};
-ghost use Rattle.mg_rules.specs.Rule.{Descends};
+ghost use Rattle.mg_rules.specs.First.{IsFirstDescendant};
 ghost use Rattle.mg_complete.specs.Turn.{Remains};
 ghost use Rattle.mg_complete.specs.Working.{IsSystem, SameWork, AllVanish};
 
@@ -34,7 +34,8 @@ impl Work {
         requires system { IsSystem self.old.ask.group self.old.system }
         requires there { place < length self.old.ask.goals }
         ensures vanish { IfOk result (λ none. IsTrue none → (d : List ℤ) →
-            Descends self.old.system.rules (slice_index_or self.old.ask.goals place d) []) }
+            IsFirstDescendant self.old.system.rules
+            (slice_index_or self.old.ask.goals place d) []) }
         ensures remains { IfOk result (λ none. none ≡ false →
             Remains self.old.ask self.old.system.rules) }
         ensures same { OnOk result (SameWork self.old self.new) }

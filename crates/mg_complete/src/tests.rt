@@ -1,11 +1,14 @@
 //! Completion of the group with two elements, < a | a^2 >: the pairs and the relator become rules, and the overlap of `a^-1 a`
 //! with `a a^-1` is joined.
-ghost use Rattle.std.specs.Prelude.{◌≡◌, ℕ, [], IfOk, IfSome};
+ghost use Rattle.std.specs.Prelude.{◌≡◌, ℕ, None, true, [], IfOk, IfSome};
 ghost use Rattle.mg_complete.specs.Working.{Works};
 
 use super::*;
+use mg_certs::Claim;
+use mg_core::{Facts, Records};
 use mg_fixtures::ask;
 use mg_rules::next_overlap;
+use mg_turn::{Outcome, Searcher, Stop, TurnEnd};
 use mg_words::Letter;
 use std::alloc::{AllocError, Global};
 use std::test::Fail;
@@ -93,5 +96,83 @@ fn after_a_unit(alloc: Global) -> Result<(u64, usize), NoMemory> {
 #[test]
 fn an_overlap_is_joined_by_a_unit(rt: HostRuntime) -> Result<(), Fail> {
     assert!(rt; after_a_unit(rt.alloc())? == (1, 2));
+    Ok(())
+}
+
+// Knows no record.
+#[derive(Drop)]
+struct Ignorant;
+
+impl Stop<Claim> for Ignorant {
+    ghost known = { λ _. None };
+
+    fn look(&mut self) -> Option<&Claim> {
+        None
+    }
+}
+
+fn no_models(alloc: Global) -> Facts<Claim>
+    ensures { result.records ≡ [] }
+{
+    Facts {
+        from: 0,
+        upto: 0,
+        records: Records::new(alloc),
+    }
+}
+
+// A search that has spent nothing.
+fn opened(alloc: Global, asked: &str) -> Result<Completion, NoMemory>
+    ensures goes { IfOk result (λ search. search.is_open ≡ true) }
+    ensures spent { IfOk result (λ search. search.spent ≡ 0) }
+{
+    let Some(ask) = ask(alloc, asked) else {
+        return Err(AllocError);
+    };
+    if ask.subgroup().len() > 0 {
+        return Err(AllocError);
+    }
+    Completion::start(alloc, &ask)
+}
+
+// The first turn of 100 units.
+fn first_turn(alloc: Global, asked: &str) -> Result<Outcome<Claim>, NoMemory> {
+    let mut search = opened(alloc, asked)?;
+    search.turn(alloc, 100, no_models(alloc), &mut Ignorant)
+}
+
+// Whether a search finds with so many units, and publishes so many records.
+fn finds(alloc: Global, asked: &str, units: u64, count: usize) -> Result<bool, NoMemory> {
+    let Outcome { spent, end } = first_turn(alloc, asked)?;
+    match end {
+        TurnEnd::Found(records) => Ok(spent == units && records.as_slice().len() == count),
+        _ => Ok(false),
+    }
+}
+
+#[test]
+fn goals_that_come_to_nothing_are_affirmed(rt: HostRuntime) -> Result<(), Fail> {
+    assert!(rt; finds(rt.alloc(), "1 aa | | aaaa", 0, 1)?);
+    assert!(rt; finds(rt.alloc(), "1 aa | | AA", 3, 1)?);
+    Ok(())
+}
+
+#[test]
+fn complete_systems_refute(rt: HostRuntime) -> Result<(), Fail> {
+    assert!(rt; finds(rt.alloc(), "1 aa | | a", 7, 2)?);
+    assert!(rt; finds(rt.alloc(), "2 | | a", 4, 2)?);
+    Ok(())
+}
+
+// Whether a search is full before its first unit.
+fn is_full(alloc: Global, asked: &str) -> Result<bool, NoMemory> {
+    let Outcome { spent, end } = first_turn(alloc, asked)?;
+    Ok(spent == 0 && matches!(end, TurnEnd::Full { .. }))
+}
+
+#[test]
+fn a_new_search_has_spent_nothing(rt: HostRuntime) -> Result<(), Fail> {
+    assert!(rt; opened(rt.alloc(), "1 aa | | a")?.spent() == 0);
+    assert!(rt; !is_full(rt.alloc(), "1 aa | | a")?);
     Ok(())
 }
