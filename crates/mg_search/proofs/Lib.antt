@@ -1,3 +1,4 @@
 pub mod Turns
 pub mod Starts
 pub mod Numbered
+mod Completed

@@ -10,16 +10,21 @@ use Rattle.mg_words.specs.declared.procedure.Procedure.TheVariants as by
 use Rattle.mg_certs.specs.Claim.{Fact}
 use Rattle.mg_plain.specs.Plain.{Plain, PlainEnd, PlainTurn}
 use Rattle.mg_plain.proofs.Turns.{turn_procedure, turn_searched, turn_publishes as plain_publishes}
+use Rattle.mg_complete.specs.Completion.{Completion}
+use Rattle.mg_complete.specs.Turn.{CompletionEnd, CompletionTurn}
 use Rattle.mg_cosets.specs.Cosets.{Cosets, CosetsEnd, CosetsTurn}
 use Rattle.mg_nielsen.specs.Moves.{Nielsen}
 use Rattle.mg_nielsen.specs.Turn.{NielsenEnd, NielsenTurn}
 use Rattle.mg_nielsen.proofs.Keeping.{turn_kept}
-use Rattle.mg_search.specs.Search.{Search, plain, enumerating, reducing, procedure_of, is_open, models_wanted, Reads, SearchTurn, InRow, HasPublished}
+use Rattle.mg_search.specs.Search.{Search, plain, completing, enumerating, reducing, procedure_of, is_open, models_wanted, Reads, SearchTurn, InRow, HasPublished}
 use Rattle.mg_search.specs.Ends.{MayEnd}
 
 -- a turn of a search of some kind is one of a search
 pub plain_turn : (search after : Plain) (units : ℕ) (facts : Facts Fact) (outcome : Outcome Fact) → PlainTurn search units outcome after → SearchTurn (plain search) units facts outcome (plain after)
 plain_turn search after units facts outcome turn = (after, refl, turn)
+
+pub completing_turn : (search after : Completion) (units : ℕ) (facts : Facts Fact) (outcome : Outcome Fact) → CompletionTurn search units outcome after → SearchTurn (completing search) units facts outcome (completing after)
+completing_turn search after units facts outcome turn = (after, refl, turn)
 
 pub enumerating_turn : (search after : Cosets) (units : ℕ) (facts : Facts Fact) (outcome : Outcome Fact) → CosetsTurn search units outcome after → SearchTurn (enumerating search) units facts outcome (enumerating after)
 enumerating_turn search after units facts outcome turn = (after, refl, turn)
@@ -30,12 +35,14 @@ reducing_turn search after units facts outcome turn = (after, refl, turn)
 -- a turn keeps the procedure
 pub keeps_procedure : (search : Search) (units : ℕ) (facts : Facts Fact) (outcome : Outcome Fact) (after : Search) → SearchTurn search units facts outcome after → procedure_of after ≡ procedure_of search
 keeps_procedure (plain search) units facts outcome after turn = ap procedure_of turn.1 ∙ turn_procedure search units outcome turn.0 turn.2
+keeps_procedure (completing search) units facts outcome after turn = ap procedure_of turn.1
 keeps_procedure (enumerating search) units facts outcome after turn = ap procedure_of turn.1
 keeps_procedure (reducing search) units facts outcome after turn = ap procedure_of turn.1
 
 -- a turn of a search that goes on keeps it in its row
 pub keeps_row : (search : Search) (units : ℕ) (facts : Facts Fact) (outcome : Outcome Fact) (after : Search) → is_open search ≡ true → SearchTurn search units facts outcome after → InRow search → InRow after
 keeps_row (plain search) units facts outcome after opened turn row = subst InRow (sym turn.1) (turn_searched search turn.0 units outcome opened turn.2 row)
+keeps_row (completing search) units facts outcome after opened turn row = subst InRow (sym turn.1) turn.2.kept
 keeps_row (enumerating search) units facts outcome after opened turn row = subst InRow (sym turn.1) (turn.2.kept row)
 keeps_row (reducing search) units facts outcome after opened turn row = subst InRow (sym turn.1) (turn_kept search turn.0 units outcome row turn.2)
 
@@ -46,6 +53,14 @@ plain_may_end search units spent (Stopped seen) h = tt
 plain_may_end search units spent (Closed records) h = absurd h
 plain_may_end search units spent Idle h = absurd h
 plain_may_end search units spent (Full what count) h = absurd h
+
+completing_may_end : (search after : Completion) (units spent : ℕ) (end : TurnEnd Fact) → CompletionEnd search after units spent end → MayEnd end by.Rewrite
+completing_may_end search after units spent More h = tt
+completing_may_end search after units spent (Found records) h = tt
+completing_may_end search after units spent (Stopped seen) h = tt
+completing_may_end search after units spent (Closed records) h = absurd h
+completing_may_end search after units spent Idle h = absurd h
+completing_may_end search after units spent (Full what count) h = tt
 
 enumerating_may_end : (search : Cosets) (units spent : ℕ) (end : TurnEnd Fact) → CosetsEnd search units spent end → MayEnd end by.Cosets
 enumerating_may_end search units spent More h = tt
@@ -66,6 +81,7 @@ reducing_may_end search units spent (Full what count) h = tt
 -- a turn ends as one of the procedure may
 pub turn_may_end : (search : Search) (units : ℕ) (facts : Facts Fact) (outcome : Outcome Fact) (after : Search) → SearchTurn search units facts outcome after → MayEnd outcome.end (procedure_of search)
 turn_may_end (plain search) units facts outcome after turn = plain_may_end search units outcome.spent outcome.end turn.2.end
+turn_may_end (completing search) units facts outcome after turn = completing_may_end search turn.0 units outcome.spent outcome.end turn.2.end
 turn_may_end (enumerating search) units facts outcome after turn = enumerating_may_end turn.0 units outcome.spent outcome.end turn.2.end
 turn_may_end (reducing search) units facts outcome after turn = reducing_may_end turn.2.reached units outcome.spent outcome.end turn.2.end
 
@@ -79,6 +95,8 @@ pub turn_publishes : (search : Search) (units : ℕ) (facts : Facts Fact) (outco
 turn_publishes (plain search) units facts outcome after records opened turn row e =
     subst (λ (s : Search). HasPublished s records) (sym turn.1)
     (plain_publishes search turn.0 units outcome.spent records opened (subst (λ (end : TurnEnd Fact). PlainTurn search units (record { spent = outcome.spent; end = end }) turn.0) e turn.2) row)
+turn_publishes (completing search) units facts outcome after records opened turn row e =
+    subst (λ (s : Search). HasPublished s records) (sym turn.1) (subst (CompletionEnd search turn.0 units outcome.spent) e turn.2.end)
 turn_publishes (enumerating search) units facts outcome after records opened turn row e =
     subst (λ (s : Search). HasPublished s records) (sym turn.1) (subst (CosetsEnd turn.0 units outcome.spent) e turn.2.end)
 turn_publishes (reducing search) units facts outcome after records opened turn row e =
@@ -87,10 +105,12 @@ turn_publishes (reducing search) units facts outcome after records opened turn r
 -- no search reads models so far
 pub none_wanted : (search : Search) (units : ℕ) → models_wanted search units ≡ 0
 none_wanted (plain search) units = refl
+none_wanted (completing search) units = refl
 none_wanted (enumerating search) units = refl
 none_wanted (reducing search) units = refl
 
 pub none_reads : (search : Search) → Reads search → ⊥
 none_reads (plain search) reads = reads
+none_reads (completing search) reads = reads
 none_reads (enumerating search) reads = reads
 none_reads (reducing search) reads = reads

@@ -4,13 +4,16 @@ use Rattle.mg_core.specs.declared.entries.Facts.{Facts}
 use Rattle.mg_turn.specs.declared.outcome.Outcome.{Outcome}
 use Rattle.mg_turn.specs.Turn.{Searching}
 use Rattle.mg_words.specs.declared.procedure.Procedure.{Procedure}
-use Rattle.mg_words.specs.declared.procedure.Procedure.TheVariants.{Derive, Act, Residue, Cosets, Nielsen}
+use Rattle.mg_words.specs.declared.procedure.Procedure.TheVariants.{Derive, Act, Residue, Rewrite, Cosets, Nielsen, Recall}
 use Rattle.mg_numbers.specs.Perms.{PermTuple}
 use Rattle.mg_present.specs.Presentation.{Group}
 use Rattle.mg_present.specs.Ask.{Inquiry, IsAsked}
 use Rattle.mg_present.specs.Applies.{Applies}
 use Rattle.mg_certs.specs.Claim.{Fact, action}
 use Rattle.mg_certs.specs.Refuting.{PublishesNo}
+use Rattle.mg_complete.specs.Completion.{Completion, IsKept as IsCompleted, first_search as first_completion}
+use Rattle.mg_complete.specs.Publishing.{Publishes as CompletionPublishes}
+use Rattle.mg_complete.specs.Turn.{CompletionTurn}
 use Rattle.mg_plain.specs.Plain.{Plain, PlainTurn, IsStarted, IsSearched, HasPublished as PlainPublished}
 use Rattle.mg_cosets.specs.Cosets.{Cosets as Enumeration, CosetsTurn, IsStarted as CosetsStarted, IsKept as IsEnumerated, ActsBy}
 use Rattle.mg_nielsen.specs.Moves.{Nielsen as Reduction, IsKept}
@@ -21,45 +24,53 @@ abbrev pub IsBuilt : Procedure → Type 0
 IsBuilt Derive = Unit {0}
 IsBuilt Act = Unit {0}
 IsBuilt Residue = Unit {0}
+IsBuilt Rewrite = Unit {0}
 IsBuilt Cosets = Unit {0}
 IsBuilt Nielsen = Unit {0}
-IsBuilt _ = ⊥
+IsBuilt Recall = ⊥
 
--- any search: one that tests numbered objects, an enumeration of cosets, or Nielsen reduction
+-- any search: one that tests numbered objects, completion, an enumeration of cosets, or Nielsen reduction
 pub data Search : Type 0 where
   plain : Plain → Search
+  completing : Completion → Search
   enumerating : Enumeration → Search
   reducing : Reduction → Search
 
 abbrev pub ask_of : Search → Inquiry
 ask_of (plain search) = search.ask
+ask_of (completing search) = search.ask
 ask_of (enumerating search) = search.ask
 ask_of (reducing search) = search.ask
 
 abbrev pub procedure_of : Search → Procedure
 procedure_of (plain search) = search.procedure
+procedure_of (completing search) = Rewrite
 procedure_of (enumerating search) = Cosets
 procedure_of (reducing search) = Nielsen
 
 abbrev pub units_spent : Search → ℕ
 units_spent (plain search) = search.cursor
+units_spent (completing search) = search.spent
 units_spent (enumerating search) = search.spent
 units_spent (reducing search) = search.spent
 
 abbrev pub is_open : Search → Bool
 is_open (plain search) = search.is_open
+is_open (completing search) = search.is_open
 is_open (enumerating search) = search.is_open
 is_open (reducing search) = search.is_open
 
 -- how many models it wants for so many units: none
 abbrev pub models_wanted : Search → ℕ → ℕ
 models_wanted (plain search) units = 0
+models_wanted (completing search) units = 0
 models_wanted (enumerating search) units = 0
 models_wanted (reducing search) units = 0
 
 -- whether a search reads models that others publish
 abbrev pub Reads : Search → Type 0
 Reads (plain search) = ⊥
+Reads (completing search) = ⊥
 Reads (enumerating search) = ⊥
 Reads (reducing search) = ⊥
 
@@ -70,6 +81,7 @@ LeadsTo {S} kind Turn after = (search : S) × (after ≡ kind search) × Turn se
 -- the turns that a search may make; it stays of its kind
 abbrev pub SearchTurn : Search → ℕ → Facts Fact → Outcome Fact → Search → Type 0
 SearchTurn (plain search) units facts outcome after = LeadsTo plain (PlainTurn search units outcome) after
+SearchTurn (completing search) units facts outcome after = LeadsTo completing (CompletionTurn search units outcome) after
 SearchTurn (enumerating search) units facts outcome after = LeadsTo enumerating (CosetsTurn search units outcome) after
 SearchTurn (reducing search) units facts outcome after = LeadsTo reducing (NielsenTurn search units outcome) after
 
@@ -83,24 +95,28 @@ pub record StartsAs {S : Type 0} (own procedure : Procedure) (IsFirst : Inquiry 
 -- a search of the procedure that has just been started for the Ask; of a procedure that isn't built there is none
 abbrev pub Opens : Procedure → Inquiry → Search → Type 0
 Opens procedure ask (plain search) = IsStarted procedure ask search
+Opens procedure ask (completing search) = StartsAs Rewrite procedure (λ asked first. first ≡ first_completion asked) ask search
 Opens procedure ask (enumerating search) = StartsAs Cosets procedure CosetsStarted ask search
 Opens procedure ask (reducing search) = StartsAs Nielsen procedure (λ asked first. first ≡ first_search asked) ask search
 
 -- what the states of a search keep from its start on
 abbrev pub InRow : Search → Type 0
 InRow (plain search) = IsSearched search
+InRow (completing search) = IsCompleted search
 InRow (enumerating search) = IsEnumerated search
 InRow (reducing search) = IsKept search
 
 -- what a search has published that has found
 abbrev pub HasPublished : Search → List Fact → Type 0
 HasPublished (plain search) records = PlainPublished search records
+HasPublished (completing search) records = CompletionPublishes search records
 HasPublished (enumerating search) records = (perms : PermTuple) × ActsBy search perms × PublishesNo search.ask (action perms) records
 HasPublished (reducing search) records = NoRest search × ReductionPublishes search records
 
 -- a search that tests numbered objects, one for each unit
 abbrev pub TestsNumbered : Search → Type 0
 TestsNumbered (plain search) = Unit {0}
+TestsNumbered (completing search) = ⊥
 TestsNumbered (enumerating search) = ⊥
 TestsNumbered (reducing search) = ⊥
 

@@ -15,7 +15,9 @@ use Rattle.mg_cosets.specs.Cosets.{searching as enumerating_searching}
 use Rattle.mg_cosets.specs.Sounds.{cosets_sound}
 use Rattle.mg_nielsen.specs.Turn.{searching as reducing_searching}
 use Rattle.mg_nielsen.specs.Sounds.{nielsen_sound}
-use Rattle.mg_search.specs.Search.{Search, plain, enumerating, reducing, searching}
+use Rattle.mg_complete.specs.Turn.{searching as completing_searching}
+use Rattle.mg_complete.specs.Sounds.{completion_sound}
+use Rattle.mg_search.specs.Search.{Search, plain, completing, enumerating, reducing, searching}
 
 -- what an end says of a search of some kind it says of it as a search
 fits_as : {S : Type 0} (own : Searching Fact Inquiry Group S) (search : S) (whole : Search) (units : ℕ) (facts : Facts Fact) (spent : ℕ) (end : TurnEnd Fact) → searching.key whole ≡ own.key search → ((n : ℕ) → searching.wants whole n ≡ own.wants search n) → EndFits recording own search units facts spent end → EndFits recording searching whole units facts spent end
@@ -38,6 +40,18 @@ sound (plain search) units facts outcome after opened some wanted turn =
       within = there.within;
       openness = there.openness;
       end = fits_as plain_searching search (plain search) units facts outcome.spent outcome.end refl (λ n. refl) there.end;
+      valid = there.valid;
+    })
+sound (completing search) units facts outcome after opened some wanted turn =
+    let there = completion_sound search units facts outcome turn.0 opened some (record { few = wanted.few; of_group = wanted.of_group }) turn.2 in
+    subst (λ (s : Search). IsSound recording searching (completing search) units facts outcome s) (sym turn.1) (record {
+      key = there.key;
+      group = there.group;
+      wants = there.wants;
+      spent = there.spent;
+      within = there.within;
+      openness = there.openness;
+      end = fits_as completing_searching search (completing search) units facts outcome.spent outcome.end refl (λ n. refl) there.end;
       valid = there.valid;
     })
 sound (enumerating search) units facts outcome after opened some wanted turn =

@@ -10,7 +10,7 @@ pub fn is_built(procedure: Procedure) -> bool
 {
     match procedure {
         Procedure::Derive | Procedure::Act | Procedure::Residue => true,
-        Procedure::Cosets | Procedure::Nielsen => true,
-        Procedure::Rewrite | Procedure::Recall => false,
+        Procedure::Rewrite | Procedure::Cosets | Procedure::Nielsen => true,
+        Procedure::Recall => false,
     }
 }

@@ -1,15 +1,17 @@
 //! Searches by their kinds.
-ghost use Rattle.std.specs.Prelude.{◌≡◌, ◌↔◌, IsTrue, ◌+◌, ◌^◌, ◌≤◌, true, Some, IfOk, IfErr, OnOk, length};
+ghost use Rattle.std.specs.Prelude.{[], ◌≡◌, ◌↔◌, IsTrue, ◌+◌, ◌^◌, ◌≤◌, true, Some, IfOk, IfErr, OnOk, length};
 ghost use Rattle.std.specs.List.{AllByRecursion};
 ghost use Rattle.mg_turn.specs.Stops.{StopsBy};
 ghost use Rattle.mg_present.specs.Ask.{IsAsked};
 ghost use Rattle.mg_present.specs.Applies.{Applies};
 ghost use Rattle.mg_certs.specs.Validity.{group_of};
+ghost use Rattle.mg_complete.specs.Completion.{first_search as first_completion};
 ghost use Rattle.mg_search.specs.Search.{IsBuilt, ask_of, procedure_of, units_spent, is_open, models_wanted, SearchTurn, Opens, searching};
 ghost use Rattle.mg_search.specs.Kinds.{seen, IsNotStarted};
 ghost use Rattle.mg_search.specs.Sounds.{sound};
 
 use mg_certs::Claim;
+use mg_complete::Completion;
 use mg_core::{Facts, NoMemory};
 use mg_cosets::Cosets;
 use mg_nielsen::Nielsen;
@@ -17,7 +19,7 @@ use mg_plain::Plain;
 use mg_present::{Ask, Presentation, applies};
 use mg_turn::{Outcome, Searcher, Stop};
 use mg_words::Procedure;
-use std::alloc::Global;
+use std::alloc::{AllocError, Global};
 use std::marker::Model;
 use thiserror::Error;
 
@@ -26,6 +28,8 @@ use thiserror::Error;
 enum Kind {
     /// A search through numbered objects.
     Plain(Plain),
+    /// Completion of the relators to a rewriting system.
+    Completing(Box<Completion>),
     /// An enumeration of cosets.
     Enumerating(Cosets),
     /// Nielsen reduction.
@@ -90,6 +94,17 @@ fn applies_to(procedure: Procedure, ask: &Ask) -> bool
     applies(procedure, ask)
 }
 
+/// A completion that has just been started. It lies behind a box, so that a search moves in few words.
+fn boxed(alloc: Global, ask: &Ask) -> Result<Box<Completion>, NoMemory>
+    requires { ask.now.subgroup ≡ [] }
+    ensures { IfOk result (λ search. search.value ≡ first_completion ask.now) }
+{
+    match Box::new(alloc, Completion::start(alloc, ask)?) {
+        Ok(search) => Ok(search),
+        Err(_) => Err(AllocError),
+    }
+}
+
 impl Kind {
     /// A search that has spent nothing.
     fn start(alloc: Global, procedure: Procedure, ask: &Ask) -> Result<Kind, StartRefused>
@@ -104,9 +119,10 @@ impl Kind {
             Procedure::Derive | Procedure::Act | Procedure::Residue => {
                 Ok(Kind::Plain(Plain::start(alloc, procedure, ask)?))
             }
+            Procedure::Rewrite => Ok(Kind::Completing(boxed(alloc, ask)?)),
             Procedure::Cosets => Ok(Kind::Enumerating(Cosets::start(alloc, ask)?)),
             Procedure::Nielsen => Ok(Kind::Reducing(Nielsen::start(alloc, ask)?)),
-            _ => unreachable!(),
+            Procedure::Recall => unreachable!(),
         }
     }
 }
@@ -129,6 +145,7 @@ impl Search {
     {
         match &self.kind {
             Kind::Plain(search) => search.procedure(),
+            Kind::Completing(_) => Procedure::Rewrite,
             Kind::Enumerating(_) => Procedure::Cosets,
             Kind::Reducing(_) => Procedure::Nielsen,
         }
@@ -140,6 +157,7 @@ impl Search {
     {
         match &self.kind {
             Kind::Plain(search) => search.cursor(),
+            Kind::Completing(search) => search.spent(),
             Kind::Enumerating(search) => search.spent(),
             Kind::Reducing(search) => search.spent(),
         }
@@ -152,6 +170,7 @@ impl Searcher<Claim> for Search {
     fn key(&self) -> &Ask {
         match &self.kind {
             Kind::Plain(search) => search.key(),
+            Kind::Completing(search) => search.key(),
             Kind::Enumerating(search) => search.key(),
             Kind::Reducing(search) => search.key(),
         }
@@ -160,6 +179,7 @@ impl Searcher<Claim> for Search {
     fn group(&self) -> &Presentation {
         match &self.kind {
             Kind::Plain(search) => search.group(),
+            Kind::Completing(search) => search.group(),
             Kind::Enumerating(search) => search.group(),
             Kind::Reducing(search) => search.group(),
         }
@@ -168,13 +188,14 @@ impl Searcher<Claim> for Search {
     fn wants(&self, units: u64) -> u32 {
         match &self.kind {
             Kind::Plain(search) => search.wants(units),
+            Kind::Completing(search) => search.wants(units),
             Kind::Enumerating(search) => search.wants(units),
             Kind::Reducing(search) => search.wants(units),
         }
     }
 
     /// One turn.
-    #[tactic(auto, using(crate::proofs::Turns::plain_turn, crate::proofs::Turns::enumerating_turn, crate::proofs::Turns::reducing_turn))]
+    #[tactic(auto, using(crate::proofs::Turns::plain_turn, crate::proofs::Turns::completing_turn, crate::proofs::Turns::enumerating_turn, crate::proofs::Turns::reducing_turn))]
     fn turn<T: Stop<Claim>>(
         &mut self,
         alloc: Global,
@@ -196,6 +217,7 @@ impl Searcher<Claim> for Search {
     {
         match &mut self.kind {
             Kind::Plain(search) => search.turn(alloc, units, facts, stop),
+            Kind::Completing(search) => search.turn(alloc, units, facts, stop),
             Kind::Enumerating(search) => search.turn(alloc, units, facts, stop),
             Kind::Reducing(search) => search.turn(alloc, units, facts, stop),
         }

@@ -181,7 +181,13 @@ fn cosets_find_a_model_too(rt: HostRuntime) -> Result<(), Fail> {
 }
 
 #[test]
-fn two_procedures_are_not_built(rt: HostRuntime) -> Result<(), Fail> {
-    assert!(rt; !is_built(Procedure::Rewrite) && !is_built(Procedure::Recall));
+fn completion_finds_a_model_too(rt: HostRuntime) -> Result<(), Fail> {
+    assert!(rt; finds(rt.alloc(), Procedure::Rewrite, "1 aa | | a", 2));
+    Ok(())
+}
+
+#[test]
+fn one_procedure_is_not_built(rt: HostRuntime) -> Result<(), Fail> {
+    assert!(rt; !is_built(Procedure::Recall));
     Ok(())
 }

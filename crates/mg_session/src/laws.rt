@@ -122,8 +122,9 @@ pub fn searches_are_over_with_a_verdict()
 {}
 
 /// Where a search keeps the verdict for its Ask, its entry has published what searches of its kind publish: the object with
-/// the least accepted number; by an enumeration of cosets the action of a whole table and the least goal that it refutes; by
-/// Nielsen reduction the derivation that the signs of the goals are.
+/// the least accepted number; by completion the log of its rules and of moves that rewrite the goals, which is accepted, or
+/// its rules as a complete system, and the least goal that they refute; by an enumeration of cosets the action of a whole
+/// table and the least goal that it refutes; by Nielsen reduction the derivation that the signs of the goals are.
 pub fn keepers_publish_as_their_kind_does()
     ensures { (plan : Plan) (workers : ℕ) (state : State) (place : ℕ) (search : SearchState)
         (entry : EntryOf Fact) →

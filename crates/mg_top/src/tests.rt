@@ -7,6 +7,7 @@ use std::sync::Wait;
 use std::test::Fail;
 use std::thread::Threads;
 
+mod completed;
 mod limits;
 mod reduced;
 mod refuted;
@@ -59,7 +60,7 @@ const NOTHING_REPORT: &[u8] =
 const REFUSED: &[u8] = b"group G = < a >\nask q : c = 1 in G\n";
 
 const UNBUILT: &[u8] =
-    b"group G = < a >\nask q : a = 1 in G\nfund 100\ngrant q derive 21\ngrant q rewrite 21\nrun\n";
+    b"group G = < a >\nask q : a = 1 in G\nfund 100\ngrant q derive 21\ngrant q recall 21\nrun\n";
 
 /// Whether a script ends with this status when these calls fail, and this was written then.
 fn ends<R: AllocGlobal + Threads + Wait + Sync>(

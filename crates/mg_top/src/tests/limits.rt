@@ -21,16 +21,7 @@ fn granted<R: AllocGlobal>(rt: &R, questions: u32, grants: &[&str]) -> Result<Ve
 #[test]
 fn there_are_64_searches_by_completion(rt: HostRuntime) -> Result<(), Fail> {
     let most = granted(&rt, 64, &["rewrite"])?;
-    assert!(rt;
-        ends(
-            &rt,
-            most.as_slice(),
-            &[],
-            &[],
-            Status::NotBuilt { line: 66 },
-            b""
-        )?
-    );
+    assert!(rt; ends(&rt, most.as_slice(), &[], &[], Status::Done, b"")?);
     let more = granted(&rt, 65, &["rewrite"])?;
     let refused = refused_at(131, 11, Cause::TooMany);
     assert!(rt; ends(&rt, more.as_slice(), &[], &[], refused, b"")?);
