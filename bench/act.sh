@@ -11,9 +11,9 @@ TIMEFORMAT=%U
 # The milliseconds of processor time for a group and a goal.
 measure() {
   script=$(printf 'group G = < %s >\nask q : %s = 1 in G\nfund %s\ngrant q act %s\nrun\nreport\n' "$1" "$2" "$units" "$units")
-  printf '%s\n' "$script" | "$program" run | grep -q " spent $units " || { echo "no search by actions in $program" >&2; exit 1; }
+  printf '%s\n' "$script" | "$program" run --workers 1 | grep -q " spent $units " || { echo "no search by actions in $program" >&2; exit 1; }
   for _ in 1 2 3 4 5; do
-    { time printf '%s\n' "$script" | "$program" run > /dev/null; } 2>&1 | tr -d .
+    { time printf '%s\n' "$script" | "$program" run --workers 1 > /dev/null; } 2>&1 | tr -d .
   done | sort -n | sed -n 3p | sed 's/^0*\(.\)/\1/'
 }
 

@@ -69,7 +69,7 @@ with tempfile.TemporaryDirectory() as work:
             f"ask q : {goal} in H", "fund 2000000", "grant q cosets 2000000", "run", "report", ""])
         taken = []
         for _ in range(5):
-            text, seconds = measured([*run, program, "run"], script)
+            text, seconds = measured([*run, program, "run", "--workers", "1"], script)
             taken.append(seconds)
         rows = int(re.search(r"spent (\d+)", text).group(1))
         end = re.search(r"end (.*)", text).group(1)

@@ -12,7 +12,7 @@ TIMEFORMAT=%U
 measure() {
   script=$(printf 'group G = < %s >\nask q : a = 1 in G\nfund %s\ngrant q derive %s\nrun\nreport\n' "$1" "$units" "$units")
   for _ in 1 2 3 4 5; do
-    { time printf '%s\n' "$script" | "$program" run > /dev/null; } 2>&1 | tr -d .
+    { time printf '%s\n' "$script" | "$program" run --workers 1 > /dev/null; } 2>&1 | tr -d .
   done | sort -n | sed -n 3p | sed 's/^0*\(.\)/\1/'
 }
 

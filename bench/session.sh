@@ -25,8 +25,8 @@ seconds() {
 
 # The median seconds of the program on a script.
 median() {
-  "$program" run < "$1" > /dev/null || { echo "no output: $1" >&2; exit 1; }
-  for _ in 1 2 3 4 5 6 7 8 9; do seconds "$1" "$program" run; done | sort -n | sed -n 5p
+  "$program" run --workers 1 < "$1" > /dev/null || { echo "no output: $1" >&2; exit 1; }
+  for _ in 1 2 3 4 5 6 7 8 9; do seconds "$1" "$program" run --workers 1; done | sort -n | sed -n 5p
 }
 
 many() {
@@ -219,7 +219,7 @@ END
 # The turns about a group, which has this number in the small program.
 compare() {
   one "$2" "$((turns * 1024))" > "$work/turns"
-  python3 bench/pairs.py "$pairs" "$work/turns" "$program" run -- /dev/null "$crate/out/bare" "$turns" "$1" > "$work/taken" || exit 1
+  python3 bench/pairs.py "$pairs" "$work/turns" "$program" run --workers 1 -- /dev/null "$crate/out/bare" "$turns" "$1" > "$work/taken" || exit 1
   awk -v turns="$turns" -v group="$2" '{
     units = turns * 1024 / 1e9
     printf "%d turns in < %s >, thousand million units a second: %.2f in a session, %.2f alone; ", turns, group, units / $1, units / $2

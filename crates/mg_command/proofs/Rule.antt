@@ -1,5 +1,5 @@
 -- Each list of words says one command, or has one cause for which it says none.
-use Rattle.std.proofs.Common.{◌≡◌, ℕ, Bool, List, [], ◌∷◌, get_or, refl, sym, ap, subst, arith, ◌∙◌, codes}
+use Rattle.std.proofs.Common.{◌≡◌, ℕ, ◌≤◌, Bool, List, [], ◌∷◌, get_or, refl, sym, ap, subst, arith, ◌∙◌, codes}
 use Rattle.mg_command.specs.declared.command.Command.{Command}
 use Rattle.mg_command.specs.declared.command.Command.TheVariants.{Run, Check, Sample}
 use Rattle.mg_command.specs.declared.command.PolicyName.{PolicyName}
@@ -8,7 +8,8 @@ use Rattle.mg_command.specs.declared.command.UsageCause.TheVariants.{NoCommand, 
 use Rattle.std.specs.Prelude.{◌↔◌, Result, Ok, Err, IfOk, IfErr}
 use Rattle.mg_lex.specs.Number.{number_value}
 use Rattle.mg_command.specs.declared.setting.Setting.{Setting}
-use Rattle.mg_command.specs.Words.{ComeTo, AreSample, alone, before, after, SaysRun, SaysSample, Says, IsName, is_run, is_check, is_sample, Lacks}
+use Rattle.mg_command.specs.declared.setting.Setting.TheVariants.{Workers, Policy}
+use Rattle.mg_command.specs.Words.{Begins, apart, joined, AreSettings, ComeTo, AreSample, alone, before, after, SaysRun, SaysSample, Says, IsName, is_run, is_check, is_sample, Lacks}
 use Rattle.mg_command.proofs.Settings.{one_list, come_to_one}
 
 -- the names differ at their first byte
@@ -107,3 +108,23 @@ exact words (Err d) says lacks = (
   λ c. (λ e. absurd (cc e), λ h. absurd (not_both words c d h lacks)),
   λ c. (λ e. let same : d ≡ c = cc e in subst (λ (x : UsageCause). Lacks words x) same lacks, λ h. ap Err (one_cause words d c lacks h)),
 )
+
+value_few : (words : List (List ℕ)) (m : ℕ) (rest : List (List ℕ)) → Begins words (Workers m) rest → (1 ≤ m) × (m ≤ 64)
+value_few words m rest (apart text is e) = (is.low, is.high)
+value_few words m rest (joined text is e) = (is.low, is.high)
+
+few_set : (words : List (List ℕ)) (settings : List Setting) (n : ℕ) (p : PolicyName) → AreSettings words settings → ComeTo settings n p → (1 ≤ n) × (n ≤ 64)
+few_set words [] n p are come = (omega (arith, come.0), omega (arith, come.0))
+few_set words (Workers m ∷ []) n p are come = let few = value_few words m are.0 are.1 in (omega (arith, come.0, few.0), omega (arith, come.0, few.1))
+few_set words (Policy q ∷ []) n p are come = (omega (arith, come.0), omega (arith, come.0))
+few_set words (Workers m ∷ Policy q ∷ []) n p are come = let few = value_few words m are.0 are.1 in (omega (arith, come.0, few.0), omega (arith, come.0, few.1))
+few_set words (Policy q ∷ Workers m ∷ []) n p are come = let few = value_few are.0 m are.2.0 are.2.1 in (omega (arith, come.0, few.0), omega (arith, come.0, few.1))
+few_set words (Workers m ∷ Workers k ∷ settings) n p are come = absurd come
+few_set words (Policy q ∷ Policy r ∷ settings) n p are come = absurd come
+few_set words (Workers m ∷ Policy q ∷ s ∷ settings) n p are come = absurd come
+few_set words (Policy q ∷ Workers m ∷ s ∷ settings) n p are come = absurd come
+
+-- a run has from 1 to 64 workers
+pub few_workers : (words : List (List ℕ)) (n : ℕ) (p : PolicyName) → Says words (Run n p) → (1 ≤ n) × (n ≤ 64)
+few_workers [] n p says = absurd says
+few_workers (word ∷ words) n p says = few_set words says.1.0 n p says.1.1 says.1.2

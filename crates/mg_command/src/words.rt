@@ -1,5 +1,5 @@
 //! The words of the command line.
-ghost use Rattle.std.specs.Prelude.{◌≡◌, ◌↔◌, ℕ, Bool, List, [], ◌∷◌, codes, IfSome, IfNone, IfOk, IfErr};
+ghost use Rattle.std.specs.Prelude.{◌≡◌, ◌↔◌, ◌≤◌, ℕ, Bool, List, [], ◌∷◌, codes, IfSome, IfNone, IfOk, IfErr};
 ghost use Rattle.mg_command.specs.Words.{Says, Lacks, SaysRun, AreSample, ComeTo, texts};
 
 use crate::command::{Command, PolicyName, UsageCause};
@@ -14,6 +14,8 @@ const MOST_NUMBER: u64 = 1 << 62;
 pub fn read_words(words: &[&str]) -> Result<Command, UsageCause>
     ensures says { (c : Command) → result ≡ Ok c ↔ Says (texts words.now) c }
     ensures lacks { (c : UsageCause) → result ≡ Err c ↔ Lacks (texts words.now) c }
+    ensures workers { (n : ℕ) (p : PolicyName) → result ≡ Ok (Command.Run n p) →
+        (1 ≤ n) × (n ≤ 64) }
 {
     read(words)
 }

@@ -1,6 +1,6 @@
 //! A policy that is stored as a function.
 ghost use Rattle.std.specs.Prelude.{◌≡◌, ◌≤◌};
-ghost use Rattle.mg_policy.specs.Sizes.{AnswersWithin};
+ghost use Rattle.mg_policy.specs.Sizes.{AnswersWithin, Gives};
 
 use crate::sizes::Sizes;
 
@@ -32,7 +32,8 @@ impl<F: Fn(u64, u64) -> u64> Policy<F> {
 }
 
 impl<F: Fn(u64, u64) -> u64> Sizes for Policy<F> {
-    ghost is_size = { λ policy turn spent held units. F.post policy.size turn held units };
+    ghost is_size = { λ policy turn spent held units.
+        Gives F.post policy.size turn held units };
 
     ghost fit = { λ policy. AnswersWithin F.pre F.post policy.size };
 

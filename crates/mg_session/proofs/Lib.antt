@@ -25,3 +25,4 @@ mod Shown
 mod Logged
 mod Sessions
 pub mod Verdicts
+pub mod Widening

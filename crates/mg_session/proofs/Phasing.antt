@@ -156,15 +156,15 @@ module _ (old allowed : State) (bound : Option ℕ) (allowed_is : allowed ≡ re
   pub can_stand : AllByRecursion (λ (x : SearchState). StandsBeside allowed.log (row_taken true x)) allowed.searches
   can_stand = allowed_ok.stand
 
-  pub can_settle : (ran : State) → Rounds one_worker TakesPart allowed ran → AllByRecursion (λ (x : SearchState). EndsSo ran.log x.search x.number x.end) ran.searches
-  can_settle ran rounds = ends_of ran.log ran.searches (rounds_ok some.0 1 one_worker TakesPart allowed ran refl rounds allowed_ok).stand
+  pub can_settle : (IsSize : ℕ → ℕ → ℕ → ℕ → Type 0) (ran : State) → Rounds (one_worker IsSize) TakesPart allowed ran → AllByRecursion (λ (x : SearchState). EndsSo ran.log x.search x.number x.end) ran.searches
+  can_settle IsSize ran rounds = ends_of ran.log ran.searches (rounds_ok some.0 1 (one_worker IsSize) TakesPart allowed ran refl rounds allowed_ok).stand
 
-  pub run_step : (ran after : State) → Rounds one_worker TakesPart allowed ran → Settle ran after → (plan : Plan) → RunStep plan one_worker bound old after
-  run_step ran after rounds settle plan = record {
+  pub run_step : (IsSize : ℕ → ℕ → ℕ → ℕ → Type 0) (ran after : State) → Rounds (one_worker IsSize) TakesPart allowed ran → Settle ran after → (plan : Plan) → RunStep plan (one_worker IsSize) bound old after
+  run_step IsSize ran after rounds settle plan = record {
     inherited = old;
     inherit = refl;
     ran = ran;
-    core = record { rounds = subst (λ (s : State). Rounds one_worker TakesPart s ran) allowed_is rounds };
+    core = record { rounds = subst (λ (s : State). Rounds (one_worker IsSize) TakesPart s ran) allowed_is rounds };
     inherited_again = ran;
     inherit_again = refl;
     ran_on = ran;

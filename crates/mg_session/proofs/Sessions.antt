@@ -24,8 +24,8 @@ use Rattle.mg_session.proofs.States.{empty_ok, after_ok}
 use Rattle.mg_session.proofs.Runs.{run_is_ok}
 use Rattle.mg_session.proofs.Firsts.{drop_at}
 
-pub stepped : (plan : Plan) (p q : PlanStep) (old new : State) (text : List ℕ) → p ≡ q → After plan one_worker (step_of q) old new → ((shown : List ℕ) → TextOf plan one_worker shown (step_of q) old text shown) → IsStepped plan (step_of p) old new text
-stepped plan p q old new text e after text_is = subst (λ s. IsStepped plan (step_of s) old new text) (sym e) (record { after = after; text_is = text_is })
+pub stepped : (plan : Plan) (IsSize : ℕ → ℕ → ℕ → ℕ → Type 0) (p q : PlanStep) (old new : State) (text : List ℕ) → p ≡ q → After plan (one_worker IsSize) (step_of q) old new → ((shown : List ℕ) → TextOf plan (one_worker IsSize) shown (step_of q) old text shown) → IsStepped plan IsSize (step_of p) old new text
+stepped plan IsSize p q old new text e after text_is = subst (λ s. IsStepped plan IsSize (step_of s) old new text) (sym e) (record { after = after; text_is = text_is })
 
 -- after so many steps there are no more searches, and none was granted more than 2^62 units at each
 abbrev Granted : ℕ → SearchState → Type 0
@@ -88,45 +88,45 @@ module _ (plan : Plan) (steps : ℕ) (old new : State) (h : Few steps old) where
   stays_few e = subst (Few (steps + 1)) (sym e) (few_more steps old h)
 
   -- a step grants 2^62 units at most, and makes one search
-  few_next : (step : Step) → IsStep plan step → StateOk plan 1 old → After plan one_worker step old new → Few (steps + 1) new
-  few_next (fund units) is ok (inl e) = subst (Few (steps + 1)) (sym e.1) (let more = few_more steps old h in record { granted = more.granted; searches = more.searches })
-  few_next (fund units) is ok (inr e) = stays_few e.1
-  few_next (grant question procedure units) is ok (inl e) = granted_few question units procedure is.1 e.1
-  few_next (grant question procedure units) is ok (inr e) = stays_few e.1
-  few_next (run bound) is ok e =
-      let ran = run_is_ok plan one_worker bound old new e ok in
+  few_next : (IsSize : ℕ → ℕ → ℕ → ℕ → Type 0) (step : Step) → IsStep plan step → StateOk plan 1 old → After plan (one_worker IsSize) step old new → Few (steps + 1) new
+  few_next IsSize (fund units) is ok (inl e) = subst (Few (steps + 1)) (sym e.1) (let more = few_more steps old h in record { granted = more.granted; searches = more.searches })
+  few_next IsSize (fund units) is ok (inr e) = stays_few e.1
+  few_next IsSize (grant question procedure units) is ok (inl e) = granted_few question units procedure is.1 e.1
+  few_next IsSize (grant question procedure units) is ok (inr e) = stays_few e.1
+  few_next IsSize (run bound) is ok e =
+      let ran = run_is_ok plan (one_worker IsSize) bound old new e ok in
       let more = few_more steps old h in
       let long = pairs_long (IsRunTo bound new.log) old.searches new.searches ran.searches in
       let most = more.searches in record { granted = ran_granted (4611686018427387904 * (steps + 1)) bound new.log old.searches new.searches ran.searches more.granted; searches = omega arith }
-  few_next (cancel question procedure) is ok e = cancelled_few question procedure e
-  few_next (report questions) is ok e = stays_few e
-  few_next report_facts is ok e = stays_few e
-  few_next report_log is ok e = stays_few e
+  few_next IsSize (cancel question procedure) is ok e = cancelled_few question procedure e
+  few_next IsSize (report questions) is ok e = stays_few e
+  few_next IsSize report_facts is ok e = stays_few e
+  few_next IsSize report_log is ok e = stays_few e
 
 -- A session that has come so far: it is in order, and with whatever the steps that are left do and print it is an
 -- output of the plan.
-pub record Going (plan : Plan) (steps : List PlanStep) (i : ℕ) (state : State) (output : List ℕ) : Type 0 where
+pub record Going (plan : Plan) (IsSize : ℕ → ℕ → ℕ → ℕ → Type 0) (steps : List PlanStep) (i : ℕ) (state : State) (output : List ℕ) : Type 0 where
   pub are : map step_of steps ≡ plan.steps
   pub ok : StateOk plan 1 state
   pub few : Few i state
-  pub prints : (later : List State) (texts : List (List ℕ)) → Continues plan one_worker state (map step_of (drop i steps)) later → Texts plan one_worker [] (map step_of (drop i steps)) (state ∷ later) texts →
-      Prints plan one_worker (output ++ flat_map (λ text. text) texts)
+  pub prints : (later : List State) (texts : List (List ℕ)) → Continues plan (one_worker IsSize) state (map step_of (drop i steps)) later → Texts plan (one_worker IsSize) [] (map step_of (drop i steps)) (state ∷ later) texts →
+      Prints plan (one_worker IsSize) (output ++ flat_map (λ text. text) texts)
 
-pub going_begins : (plan : Plan) (steps : List PlanStep) (state : State) (output : List ℕ) → map step_of steps ≡ plan.steps → state ≡ empty → output ≡ [] → Going plan steps 0 state output
-going_begins plan steps state output are e o = record {
+pub going_begins : (plan : Plan) (IsSize : ℕ → ℕ → ℕ → ℕ → Type 0) (steps : List PlanStep) (state : State) (output : List ℕ) → map step_of steps ≡ plan.steps → state ≡ empty → output ≡ [] → Going plan IsSize steps 0 state output
+going_begins plan IsSize steps state output are e o = record {
   are = are;
   ok = subst (StateOk plan 1) (sym e) (empty_ok plan 1);
   few = subst (Few 0) (sym e) (record { granted = tt; searches = omega arith });
   prints = λ later texts continues are_texts. record {
     states = state ∷ later;
-    session = (e, subst (λ ss. Continues plan one_worker state ss later) are continues);
+    session = (e, subst (λ ss. Continues plan (one_worker IsSize) state ss later) are continues);
     texts = texts;
-    texts_are = subst (λ ss. Texts plan one_worker [] ss (state ∷ later) texts) are are_texts;
+    texts_are = subst (λ ss. Texts plan (one_worker IsSize) [] ss (state ∷ later) texts) are are_texts;
     output_is = ap (λ out. out ++ flat_map (λ text. text) texts) o;
   };
 }
 
-module _ (plan : Plan) (steps : List PlanStep) (i : ℕ) (state : State) (output : List ℕ) (h : Going plan steps i state output) where
+module _ (plan : Plan) (IsSize : ℕ → ℕ → ℕ → ℕ → Type 0) (steps : List PlanStep) (i : ℕ) (state : State) (output : List ℕ) (h : Going plan IsSize steps i state output) where
   step_there : (d : PlanStep) → i < length steps → slice_get plan.steps i ≡ Some (step_of (get_or steps i d))
   step_there d within = ap (λ ss. slice_get ss i) (sym h.are) ∙ there steps i within
     where
@@ -158,25 +158,25 @@ module _ (plan : Plan) (steps : List PlanStep) (i : ℕ) (state : State) (output
   going_counted is_plan within =
       let upto = steps_within is_plan within in all_imply (Granted (4611686018427387904 * i)) (Granted MOST_GRANTED) (λ x g. omega arith) state.searches h.few.granted
 
-  pub going_next : (d : PlanStep) (new : State) (text output' : List ℕ) → IsPlan plan → i < length steps → IsStepped plan (step_of (get_or steps i d)) state new text → output' ≡ output ++ text →
-      Going plan steps (i + 1) new output'
+  pub going_next : (d : PlanStep) (new : State) (text output' : List ℕ) → IsPlan plan → i < length steps → IsStepped plan IsSize (step_of (get_or steps i d)) state new text → output' ≡ output ++ text →
+      Going plan IsSize steps (i + 1) new output'
   going_next d new text output' is_plan within is_stepped output_is =
       let here : drop i steps ≡ get_or steps i d ∷ drop (i + 1) steps = drop_at steps i d within in
       record {
         are = h.are;
-        ok = after_ok plan 1 one_worker (step_of (get_or steps i d)) state new refl is_stepped.after h.ok;
-        few = few_next plan i state new h.few (step_of (get_or steps i d)) (going_step d is_plan within) h.ok is_stepped.after;
+        ok = after_ok plan 1 (one_worker IsSize) (step_of (get_or steps i d)) state new refl is_stepped.after h.ok;
+        few = few_next plan i state new h.few IsSize (step_of (get_or steps i d)) (going_step d is_plan within) h.ok is_stepped.after;
         prints = λ later texts continues are_texts.
-            let all = h.prints (new ∷ later) (text ∷ texts) (subst (λ ss. Continues plan one_worker state (map step_of ss) (new ∷ later)) (sym here) (is_stepped.after, continues))
-            (subst (λ ss. Texts plan one_worker [] (map step_of ss) (state ∷ new ∷ later) (text ∷ texts)) (sym here) ([], is_stepped.text_is [], are_texts)) in
-            subst (Prints plan one_worker) (sym (ap (λ out. out ++ flat_map (λ t. t) texts) output_is ∙ append_assoc output text (flat_map (λ t. t) texts))) all;
+            let all = h.prints (new ∷ later) (text ∷ texts) (subst (λ ss. Continues plan (one_worker IsSize) state (map step_of ss) (new ∷ later)) (sym here) (is_stepped.after, continues))
+            (subst (λ ss. Texts plan (one_worker IsSize) [] (map step_of ss) (state ∷ new ∷ later) (text ∷ texts)) (sym here) ([], is_stepped.text_is [], are_texts)) in
+            subst (Prints plan (one_worker IsSize)) (sym (ap (λ out. out ++ flat_map (λ t. t) texts) output_is ∙ append_assoc output text (flat_map (λ t. t) texts))) all;
       }
 
-  pub going_done : length steps ≤ i → Prints plan one_worker output
+  pub going_done : length steps ≤ i → Prints plan (one_worker IsSize) output
   going_done over =
       let none : drop i steps ≡ [] = nothing steps i over in
-      subst (Prints plan one_worker) (append-nil output)
-      (h.prints [] [] (subst (λ ss. Continues plan one_worker state (map step_of ss) []) (sym none) refl) (subst (λ ss. Texts plan one_worker [] (map step_of ss) (state ∷ []) []) (sym none) refl))
+      subst (Prints plan (one_worker IsSize)) (append-nil output)
+      (h.prints [] [] (subst (λ ss. Continues plan (one_worker IsSize) state (map step_of ss) []) (sym none) refl) (subst (λ ss. Texts plan (one_worker IsSize) [] (map step_of ss) (state ∷ []) []) (sym none) refl))
     where
       nothing : (ss : List PlanStep) (n : ℕ) → length ss ≤ n → drop n ss ≡ []
       nothing [] zero w = refl

@@ -24,7 +24,8 @@ use Rattle.mg_search.specs.Search.{IsBuilt as HasSearches}
 use Rattle.mg_search.proofs.Starts.{built_unless}
 use Rattle.mg_session.specs.Refusing.{of_resolving}
 use Rattle.mg_session.specs.declared.script.SessionRefused.TheVariants.{Script}
-use Rattle.mg_session.specs.Built.{IsBuilt, IsBuiltStep, one_worker}
+use Rattle.mg_session.specs.State.{Params}
+use Rattle.mg_session.specs.Built.{IsBuilt, IsBuiltStep}
 use Rattle.mg_session.specs.Output.{Prints}
 use Rattle.mg_session.specs.Scripts as scripts
 use Rattle.mg_session.specs.Scripts.{UsesOther, UseNone, IsFirstOther, Resolves, Unbuilt, IsOutput}
@@ -153,11 +154,11 @@ is_unbuilt bytes script plan line read is first =
     record { scope = is.0; resolves = record { script = script; read = read; means = is.1 }; first = first }
 
 -- an output of the plan of a script is one of its bytes
-pub is_output : (bytes : List ℕ) (script : List ScriptLine) (plan : Plan) (output : List ℕ) → IsScript bytes script → IsPlanOf script plan → Prints plan one_worker output → IsOutput bytes one_worker output
-is_output bytes script plan output read is prints = record {
+pub is_output : (params : Params) (bytes : List ℕ) (script : List ScriptLine) (plan : Plan) (output : List ℕ) → IsScript bytes script → IsPlanOf script plan → Prints plan params output → IsOutput bytes params output
+is_output params bytes script plan output read is prints = record {
   scope = is.0;
   resolves = record { script = script; read = read; means = is.1 };
-  prints = subst (λ (p : Plan). Prints p one_worker output) is.2 prints;
+  prints = subst (λ (p : Plan). Prints p params output) is.2 prints;
 }
 
 -- where resolving refuses a script, that is told

@@ -12,7 +12,7 @@ use Rattle.mg_workers.specs.declared.held.End.{End}
 use Rattle.mg_workers.specs.declared.held.End.TheVariants as ends
 use Rattle.mg_workers.specs.Run.{Row, Running, Event, Leads, Runs, row_after}
 use Rattle.mg_workers.specs.Rows.{EachPair, Keeps, AreFunded}
-use Rattle.mg_workers.specs.Round.{even, row_of as held_row, entered, IsFit, GoesRound}
+use Rattle.mg_workers.specs.Round.{row_of as held_row, entered, IsFit, GoesRound}
 use Rattle.mg_workers.proofs.Events.{runs_keep}
 use Rattle.mg_certs.specs.Claim.{Fact}
 use Rattle.mg_certs.specs.Validity.{key_of, recording}
@@ -272,22 +272,22 @@ module _ (state : State) (ledger : LedgerState) (ks : List Kept) (log : List (En
   pub few : length (places_of runs ks) < 2 ^ 32
   few = let long = places_long runs ks each_run in let most = cells.few in omega arith
 
-  module _ (ran : List (Held Search)) (log' : List (Entry Fact)) (went : GoesRound recording searching (running 0 runs ks ledger.cells) log ran log') where
+  module _ (ran : List (Held Search)) (log' : List (Entry Fact)) (IsSize : ℕ → ℕ → ℕ → ℕ → Type 0) (went : GoesRound recording searching IsSize (running 0 runs ks ledger.cells) log ran log') where
     kept : EachPair (Keeps searching) (came 0 runs ks ledger.cells) went.last.rows
-    kept = runs_keep recording searching 1 even log sound (entered (running 0 runs ks ledger.cells) log) went.last (funded_of (came 0 runs ks ledger.cells) fit) went.runs
+    kept = runs_keep recording searching 1 IsSize log sound (entered (running 0 runs ks ledger.cells) log) went.last (funded_of (came 0 runs ks ledger.cells) fit) went.runs
 
     pub spent : HaveSpent (places_of runs ks) ran ledger.cells
     spent = have_spent 0 runs ks ledger.cells went.last.rows ran each_run cells.each kept went.rows_are
 
     pub rounds : (ledger' : LedgerState) (ks' : List Kept) → ledger' ≡ record ledger { cells = cells_after (places_of runs ks) ran ledger.cells } → ks' ≡ joined (places_of runs ks) ran →
-        Rounds one_worker TakesPart state (state_of ledger' ks' log')
+        Rounds (one_worker IsSize) TakesPart state (state_of ledger' ks' log')
     rounds ledger' ks' ledger_is ks_is =
-        subst (λ (s : State). Rounds one_worker TakesPart s (state_of ledger' ks' log')) is (record {
-          first = all_rows 1 even log runs first.searches (entered (running 0 runs ks ledger.cells) log);
-          last = all_rows 1 even log runs first.searches went.last;
+        subst (λ (s : State). Rounds (one_worker IsSize) TakesPart s (state_of ledger' ks' log')) is (record {
+          first = all_rows 1 IsSize log runs first.searches (entered (running 0 runs ks ledger.cells) log);
+          last = all_rows 1 IsSize log runs first.searches went.last;
           rows = are_rows first 0 runs ks ledger.cells taking_first;
           log = refl;
-          runs = all_run 1 even log runs first.searches (entered (running 0 runs ks ledger.cells) log) went.last went.runs;
+          runs = all_run 1 IsSize log runs first.searches (entered (running 0 runs ks ledger.cells) log) went.last went.runs;
           finished = all_over runs first.searches went.last.rows went.finished;
           new_is = ap (λ (l : LedgerState). state_of l ks' log') ledger_is ∙ ap (λ us. state_of (record ledger { cells = cells_after (places_of runs ks) ran ledger.cells }) us log') ks_is
               ∙ ap (λ ys. record first { searches = ys; log = log' }) (sym (back 0 runs ks ledger.cells went.last.rows ran each_run cells.each kept went.rows_are))

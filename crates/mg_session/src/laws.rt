@@ -1,4 +1,4 @@
-//! Laws of sessions. Each stands on a function without a body, over any sizes of turns.
+//! Laws of sessions. Each stands on a function without a body, over any policy.
 ghost use Rattle.std.specs.Prelude.{◌≡◌, ◌⊎◌, ℕ, ◌+◌, ◌<◌, ◌≤◌, true, false, List, Option, Some, IfSome, Contains, length, slice_get};
 ghost use Rattle.std.specs.List.{AllByRecursion};
 ghost use Rattle.mg_core.specs.declared.entries.Entry.{Entry as EntryOf};
@@ -28,7 +28,7 @@ ghost use Rattle.mg_session.specs.RunOk.{RunOk, reach};
 ghost use Rattle.mg_session.specs.Scripts.{Resolves, IsRefused, Unbuilt};
 
 use mg_lex::Refused;
-use mg_workers::Sizes;
+use mg_policy::Sizes;
 
 /// Every list of bytes has a meaning or is refused. It has one meaning only, or is refused at one place for one cause, and
 /// never both; and the first line that asks for what isn't built is one.
@@ -46,16 +46,16 @@ pub fn a_meaning_or_a_refusal()
 
 /// A session has a state before each step, and one behind the last.
 pub fn sessions_have_a_state_more<P: Sizes>()
-    ensures { (plan : Plan) (workers : ℕ) (states : List State) →
-        Session plan (record { workers = workers; IsSize = P.is_size }) states →
+    ensures { (plan : Plan) (policy : P) (workers : ℕ) (states : List State) →
+        Session plan (record { workers = workers; IsSize = P.is_size policy }) states →
         length states ≡ length plan.steps + 1 }
 {}
 
 /// In every state of a session accounts balance, funds are conserved, the log is legal, and each search stands
 /// as its entries and the verdicts say.
 pub fn states_are_in_order<P: Sizes>()
-    ensures { (plan : Plan) (workers : ℕ) (states : List State) →
-        Session plan (record { workers = workers; IsSize = P.is_size }) states →
+    ensures { (plan : Plan) (policy : P) (workers : ℕ) (states : List State) →
+        Session plan (record { workers = workers; IsSize = P.is_size policy }) states →
         AllByRecursion (StateOk plan workers) states }
 {}
 
@@ -63,22 +63,22 @@ pub fn states_are_in_order<P: Sizes>()
 /// search spends within its reach; where its Ask is settled it holds nothing, and else it has spent its reach or
 /// is closed, idle or full.
 pub fn runs_are_in_order<P: Sizes>()
-    ensures state { (plan : Plan) (workers : ℕ) (bound : Option ℕ) (old new : State) →
+    ensures state { (plan : Plan) (policy : P) (workers : ℕ) (bound : Option ℕ) (old new : State) →
         StateOk plan workers old →
-        RunStep plan (record { workers = workers; IsSize = P.is_size }) bound old new →
+        RunStep plan (record { workers = workers; IsSize = P.is_size policy }) bound old new →
         StateOk plan workers new }
-    ensures run { (plan : Plan) (workers : ℕ) (bound : Option ℕ) (old new : State) →
+    ensures run { (plan : Plan) (policy : P) (workers : ℕ) (bound : Option ℕ) (old new : State) →
         StateOk plan workers old →
-        RunStep plan (record { workers = workers; IsSize = P.is_size }) bound old new →
+        RunStep plan (record { workers = workers; IsSize = P.is_size policy }) bound old new →
         RunOk bound old new }
 {}
 
 /// Where the reach of a search is at least the first accepted number, its Ask is settled after the run.
 pub fn the_first_number_settles<P: Sizes>()
-    ensures { (plan : Plan) (workers : ℕ) (bound : Option ℕ) (old new : State) (place : ℕ)
-        (search : SearchState) (n : ℕ) →
+    ensures { (plan : Plan) (policy : P) (workers : ℕ) (bound : Option ℕ) (old new : State)
+        (place : ℕ) (search : SearchState) (n : ℕ) →
         StateOk plan workers old →
-        RunStep plan (record { workers = workers; IsSize = P.is_size }) bound old new →
+        RunStep plan (record { workers = workers; IsSize = P.is_size policy }) bound old new →
         slice_get old.searches place ≡ Some search →
         First (AcceptedBy (procedure_of search.search) (ask_of search.search)) n →
         n ≤ reach bound search → Settled key_of new.log (ask_of search.search) }
@@ -86,10 +86,10 @@ pub fn the_first_number_settles<P: Sizes>()
 
 /// Where its Ask isn't settled after the run, a search through numbered objects has spent its reach.
 pub fn open_searches_spend_their_reach<P: Sizes>()
-    ensures { (plan : Plan) (workers : ℕ) (bound : Option ℕ) (old new : State) (place : ℕ)
-        (search : SearchState) →
+    ensures { (plan : Plan) (policy : P) (workers : ℕ) (bound : Option ℕ) (old new : State)
+        (place : ℕ) (search : SearchState) →
         StateOk plan workers old →
-        RunStep plan (record { workers = workers; IsSize = P.is_size }) bound old new →
+        RunStep plan (record { workers = workers; IsSize = P.is_size policy }) bound old new →
         slice_get old.searches place ≡ Some search → IsPlain (procedure_of search.search) →
         (Settled key_of new.log (ask_of search.search) → ⊥) →
         (after : SearchState) × (slice_get new.searches place ≡ Some after) ×
@@ -98,12 +98,12 @@ pub fn open_searches_spend_their_reach<P: Sizes>()
 
 /// Each state of a session leads to the next one by the step between them.
 pub fn steps_lead_from_state_to_state<P: Sizes>()
-    ensures { (plan : Plan) (workers : ℕ) (states : List State) (place : ℕ) (step : Step)
-        (old new : State) →
-        Session plan (record { workers = workers; IsSize = P.is_size }) states →
+    ensures { (plan : Plan) (policy : P) (workers : ℕ) (states : List State) (place : ℕ)
+        (step : Step) (old new : State) →
+        Session plan (record { workers = workers; IsSize = P.is_size policy }) states →
         slice_get plan.steps place ≡ Some step →
         slice_get states place ≡ Some old → slice_get states (place + 1) ≡ Some new →
-        After plan (record { workers = workers; IsSize = P.is_size }) step old new }
+        After plan (record { workers = workers; IsSize = P.is_size policy }) step old new }
 {}
 
 /// A search through numbered objects that is over has its Ask settled; one that goes on has accepted none of the
@@ -148,24 +148,25 @@ pub fn keepers_have_the_least_number()
 /// A step that is refused changes nothing, and prints one line: a fund by which more than all units would be funded, a
 /// grant of more than the purse has, and a cancel where there is no such search.
 pub fn refused_steps_change_nothing<P: Sizes>()
-    ensures fund { (plan : Plan) (workers units : ℕ) (old new : State)
+    ensures fund { (plan : Plan) (policy : P) (workers units : ℕ) (old new : State)
         (shown shown' text : List ℕ) → MOST_FUNDED < old.funded + units →
-        After plan (record { workers = workers; IsSize = P.is_size }) (fund units) old new →
-        TextOf plan (record { workers = workers; IsSize = P.is_size }) shown
+        After plan (record { workers = workers; IsSize = P.is_size policy }) (fund units) old new →
+        TextOf plan (record { workers = workers; IsSize = P.is_size policy }) shown
         (fund units) old text shown' →
         (new ≡ old) × (text ≡ fund_refused old.funded) }
-    ensures grant { (plan : Plan) (workers question units : ℕ) (procedure : ProcedureOf)
-        (old new : State) (shown shown' text : List ℕ) → old.purse < units →
-        After plan (record { workers = workers; IsSize = P.is_size })
+    ensures grant { (plan : Plan) (policy : P) (workers question units : ℕ)
+        (procedure : ProcedureOf) (old new : State) (shown shown' text : List ℕ) →
+        old.purse < units →
+        After plan (record { workers = workers; IsSize = P.is_size policy })
         (grant question procedure units) old new →
-        TextOf plan (record { workers = workers; IsSize = P.is_size }) shown
+        TextOf plan (record { workers = workers; IsSize = P.is_size policy }) shown
         (grant question procedure units) old text shown' →
         (new ≡ old) × (text ≡ grant_refused old.purse) }
-    ensures cancel { (plan : Plan) (workers question : ℕ) (procedure : ProcedureOf)
+    ensures cancel { (plan : Plan) (policy : P) (workers question : ℕ) (procedure : ProcedureOf)
         (old new : State) (shown shown' text : List ℕ) → IsAbsent old question procedure →
-        After plan (record { workers = workers; IsSize = P.is_size })
+        After plan (record { workers = workers; IsSize = P.is_size policy })
         (cancel question procedure) old new →
-        TextOf plan (record { workers = workers; IsSize = P.is_size }) shown
+        TextOf plan (record { workers = workers; IsSize = P.is_size policy }) shown
         (cancel question procedure) old text shown' →
         (new ≡ old) × (text ≡ cancel_refused) }
 {}

@@ -7,7 +7,7 @@ ghost use Rattle.mg_names.specs.Plan.{Plan as PlanOf, AskOf, fund, grant, cancel
 ghost use Rattle.mg_search.specs.Search.{IsBuilt, Opens};
 ghost use Rattle.mg_session.specs.Session.{After, IsAbsent};
 ghost use Rattle.mg_session.specs.Output.{TextOf};
-ghost use Rattle.mg_session.specs.Built.{one_worker};
+ghost use Rattle.mg_session.specs.Built.{no_turns};
 ghost use Rattle.mg_session.specs.At.{AreCounted, IsReady};
 
 use crate::state::Session;
@@ -47,9 +47,9 @@ impl Session {
     /// Adds units to the purse, and answers what is printed of it.
     pub(crate) fn fund(&mut self, alloc: Global, units: u64) -> Result<Vec<u8>, NoMemory>
         ensures after { OnOk result ((plan : PlanOf) →
-            After plan one_worker (fund units) self.old self.new) }
+            After plan no_turns (fund units) self.old self.new) }
         ensures text { IfOk result (λ text. (plan : PlanOf) (shown : List ℕ) →
-            TextOf plan one_worker shown (fund units) self.old text.items shown) }
+            TextOf plan no_turns shown (fund units) self.old text.items shown) }
     {
         match self.ledger.fund(units) {
             Ok(()) => Ok(Vec::new(alloc)),
@@ -70,10 +70,10 @@ impl Session {
         requires built { IsBuilt procedure }
         requires few { length self.old.searches < u32.MAX }
         requires counted { AreCounted self.old }
-        ensures after { OnOk result (After plan.now one_worker (grant question procedure units)
+        ensures after { OnOk result (After plan.now no_turns (grant question procedure units)
             self.old self.new) }
         ensures text { IfOk result (λ text. (shown : List ℕ) →
-            TextOf plan.now one_worker shown (grant question procedure units) self.old text.items
+            TextOf plan.now no_turns shown (grant question procedure units) self.old text.items
             shown) }
     {
         let purse = self.ledger.purse();
@@ -116,9 +116,9 @@ impl Session {
         procedure: Procedure,
     ) -> Result<Vec<u8>, NoMemory>
         ensures after { OnOk result ((plan : PlanOf) →
-            After plan one_worker (cancel question procedure) self.old self.new) }
+            After plan no_turns (cancel question procedure) self.old self.new) }
         ensures text { IfOk result (λ text. (plan : PlanOf) (shown : List ℕ) →
-            TextOf plan one_worker shown (cancel question procedure) self.old text.items shown) }
+            TextOf plan no_turns shown (cancel question procedure) self.old text.items shown) }
     {
         match self.place_of(question, procedure) {
             Some(place) => {

@@ -14,6 +14,7 @@ ghost use Rattle.mg_session.specs.declared.parts.Place.{Place as PlaceOf};
 use crate::state::{Kept, Session};
 use mg_core::NoMemory;
 use mg_ledger::{Account, Ledger};
+use mg_policy::Sizes;
 use mg_search::Search;
 use mg_workers::{Held, HeldList, go_round};
 use std::alloc::Global;
@@ -181,12 +182,19 @@ fn join(
 
 impl Session {
     /// Lets those searches run that take part, as one worker, until each has left or has no allowed units.
-    pub(crate) fn rounds(self, alloc: Global, runs: &[bool]) -> Result<Session, NoMemory>
+    pub(crate) fn rounds<P: Sizes>(
+        self,
+        alloc: Global,
+        policy: &P,
+        runs: &[bool],
+    ) -> Result<Session, NoMemory>
+        requires policy { P.fit policy.now }
         requires ledger { IsLedger (ledger_of self) }
         requires stand { AllByRecursion (λ search.
             StandsBeside self.log (row_taken true search)) self.searches }
         requires taking { AreTaking self runs.now }
-        ensures { IfOk result (λ after. Rounds one_worker TakesPart self after) }
+        ensures { IfOk result (λ after.
+            Rounds (one_worker (P.is_size policy.now)) TakesPart self after) }
     {
         let Session {
             mut ledger,
@@ -194,7 +202,7 @@ impl Session {
             searches,
         } = self;
         let parted = part(alloc, &ledger, searches, runs)?;
-        let ran = go_round(alloc, &mut book, parted.running)?;
+        let ran = go_round(alloc, &mut book, policy, parted.running)?;
         let searches = join(alloc, &mut ledger, parted.places, ran)?;
         Ok(Session {
             ledger,

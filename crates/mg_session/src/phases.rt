@@ -10,6 +10,7 @@ ghost use Rattle.mg_session.specs.At.{AreTaking};
 
 use crate::state::Session;
 use mg_core::NoMemory;
+use mg_policy::Sizes;
 use std::alloc::Global;
 
 impl Session {
@@ -46,15 +47,21 @@ impl Session {
     }
 
     /// A whole run: each search may spend what it holds, or the bound where that is less.
-    pub(crate) fn run(self, alloc: Global, bound: Option<u64>) -> Result<Session, NoMemory>
-        requires { (plan : Plan) × StateOk plan 1 self }
+    pub(crate) fn run<P: Sizes>(
+        self,
+        alloc: Global,
+        policy: &P,
+        bound: Option<u64>,
+    ) -> Result<Session, NoMemory>
+        requires policy { P.fit policy.now }
+        requires ok { (plan : Plan) × StateOk plan 1 self }
         ensures { IfOk result (λ after. (plan : Plan) →
-            After plan one_worker (run bound) self after) }
+            After plan (one_worker (P.is_size policy.now)) (run bound) self after) }
     {
         let mut session = self;
         session.allow(bound);
         let runs = session.those_that_run(alloc)?;
-        let mut ran = session.rounds(alloc, runs.as_slice())?;
+        let mut ran = session.rounds(alloc, policy, runs.as_slice())?;
         ran.settle();
         Ok(ran)
     }

@@ -4,7 +4,7 @@ ghost use Rattle.mg_names.specs.Plan.{Plan as PlanOf, report as print_blocks, re
 ghost use Rattle.mg_names.specs.IsPlan.{IsPlan};
 ghost use Rattle.mg_session.specs.Output.{TextOf};
 ghost use Rattle.mg_session.specs.StateOk.{StateOk};
-ghost use Rattle.mg_session.specs.Built.{one_worker};
+ghost use Rattle.mg_session.specs.Built.{no_turns};
 
 use crate::blocks::first_blocks;
 use crate::entries::{entry_lines, sum_lines};
@@ -25,7 +25,7 @@ pub(crate) fn report_text(
     requires plan { IsPlan plan.now }
     requires there { questions ≤ length plan.now.questions }
     ensures { IfOk result (λ text. (shown : List ℕ) →
-        TextOf plan.now one_worker shown (print_blocks questions) session.now text.items shown) }
+        TextOf plan.now no_turns shown (print_blocks questions) session.now text.items shown) }
 {
     let blocks = first_blocks(alloc, plan, session, questions)?;
     report(alloc, session.funded(), session.purse(), blocks.as_slice())
@@ -34,7 +34,7 @@ pub(crate) fn report_text(
 /// What `report facts` prints.
 pub(crate) fn facts_text(alloc: Global, session: &Session) -> Result<Vec<u8>, NoMemory>
     ensures { IfOk result (λ text. (plan : PlanOf) (shown : List ℕ) →
-        TextOf plan one_worker shown print_facts session.now text.items shown) }
+        TextOf plan no_turns shown print_facts session.now text.items shown) }
 {
     report_facts(alloc, fact_blocks(alloc, session)?.as_slice())
 }
@@ -43,7 +43,7 @@ pub(crate) fn facts_text(alloc: Global, session: &Session) -> Result<Vec<u8>, No
 pub(crate) fn log_text(alloc: Global, plan: &Plan, session: &Session) -> Result<Vec<u8>, NoMemory>
     requires { StateOk plan.now 1 session.now }
     ensures { IfOk result (λ text. (shown : List ℕ) →
-        TextOf plan.now one_worker shown print_log session.now text.items shown) }
+        TextOf plan.now no_turns shown print_log session.now text.items shown) }
 {
     let entries = entry_lines(alloc, session)?;
     let sums = sum_lines(alloc, plan, session)?;

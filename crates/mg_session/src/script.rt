@@ -1,6 +1,5 @@
 //! From the bytes of a script to its output.
-ghost use Rattle.std.specs.Prelude.{◌≡◌, ◌↔◌, ◌<◌, ◌-◌, ◌^◌, ℕ, length, Err, IfOk, IfSome, IfNone, OnOk, IsTrue};
-ghost use Rattle.mg_session.specs.Built.{one_worker};
+ghost use Rattle.std.specs.Prelude.{◌≡◌, ◌↔◌, ◌<◌, ◌≤◌, ◌-◌, ◌^◌, ℕ, length, Err, IfOk, IfSome, IfNone, OnOk, IsTrue};
 ghost use Rattle.mg_session.specs.Scripts.{UsesOther, UseNone, IsFirstOther, IsRefused, Unbuilt, IsOutput};
 ghost use Rattle.mg_session.specs.Refusing.{of_reading, of_resolving};
 ghost use Rattle.mg_session.specs.Other.{IsOther, IsOtherName};
@@ -9,6 +8,7 @@ ghost use Rattle.mg_session.specs.declared.script.SessionRefused.TheVariants.{No
 use crate::session::run_plan;
 use mg_lex::{Keyword, Refused, Text};
 use mg_names::{ResolveRefused, resolve};
+use mg_policy::Sizes;
 use mg_script::{ParseRefused, ScriptLine, parse, procedure_of};
 use mg_search::is_built;
 use mg_terms::Lexeme;
@@ -61,11 +61,20 @@ impl From<AllocError> for SessionRefused {
     }
 }
 
-/// Runs the session of a script, and answers what it prints; or answers where the script is refused, or
-/// the first line that asks for what isn't built.
-pub fn run_script(alloc: Global, bytes: &[u8]) -> Result<Text, SessionRefused>
-    requires { length bytes.now < 2 ^ 32 - 1 }
-    ensures output { IfOk result (IsOutput bytes.now one_worker) }
+/// Runs the session of a script with so many workers and a policy, and answers what it prints; or answers where the script
+/// is refused, or the first line that asks for what isn't built.
+pub fn run_script<P: Sizes>(
+    alloc: Global,
+    bytes: &[u8],
+    workers: u64,
+    policy: &P,
+) -> Result<Text, SessionRefused>
+    requires short { length bytes.now < 2 ^ 32 - 1 }
+    requires some { 1 ≤ workers }
+    requires few { workers ≤ 64 }
+    requires policy { P.fit policy.now }
+    ensures output { IfOk result (IsOutput bytes.now
+        (record { workers = workers; IsSize = P.is_size policy.now })) }
     ensures script { (r : Refused) → result ≡ Err (SessionRefused.Script r) →
         IsRefused bytes.now r }
     ensures not_built { (line : ℕ) → result ≡ Err (SessionRefused.NotBuilt line) →
@@ -78,7 +87,7 @@ pub fn run_script(alloc: Global, bytes: &[u8]) -> Result<Text, SessionRefused>
     if let Some(line) = other {
         return Err(SessionRefused::NotBuilt { line });
     }
-    Ok(run_plan(alloc, &plan)?)
+    Ok(run_plan(alloc, &plan, workers, policy)?)
 }
 
 /// The number of the first line that grants or cancels a search by a procedure that isn't built.

@@ -14,7 +14,8 @@ use Rattle.mg_report.specs.Report.{QuestionBlock}
 use Rattle.mg_session.specs.State.{State}
 use Rattle.mg_session.specs.Output.{IsBlock}
 use Rattle.mg_session.specs.StateOk.{StateOk}
-use Rattle.mg_session.specs.Built.{one_worker}
+use Rattle.mg_command.specs.declared.command.PolicyName.{PolicyName}
+use Rattle.mg_top.specs.Command.{params_of}
 use Rattle.mg_session.specs.Scripts.{IsOutput}
 use Rattle.mg_session.proofs.States.{session_ok}
 use Rattle.mg_session.proofs.Printed.{printed_true}
@@ -23,13 +24,13 @@ use Rattle.mg_session.proofs.Verdicts.{agree}
 use Rattle.mg_top.specs.Answer.{Answers}
 
 -- the states behind a legal output are in order
-pub ok_at : (script output : List ℕ) (legal : IsOutput script one_worker output) (step : ℕ) (state : State) → slice_get legal.prints.states step ≡ Some state → StateOk legal.scope.plan 1 state
-ok_at script output legal step state at =
+pub ok_at : (workers : ℕ) (policy : PolicyName) (script output : List ℕ) (legal : IsOutput script (params_of workers policy) output) (step : ℕ) (state : State) → slice_get legal.prints.states step ≡ Some state → StateOk legal.scope.plan workers state
+ok_at workers policy script output legal step state at =
     let states = legal.prints.states in
-    all_at (StateOk legal.scope.plan 1) states step state (session_ok legal.scope.plan 1 one_worker states refl legal.prints.session) at
+    all_at (StateOk legal.scope.plan workers) states step state (session_ok legal.scope.plan workers (params_of workers policy) states refl legal.prints.session) at
 
-true_in : (plan : Plan) (state : State) (place : ℕ) (asked : PlanQuestion) (block : QuestionBlock) → StateOk plan 1 state → IsBlock plan state place asked block → IfSome block.verdict (λ v. IsTrueOf block.ask v.1)
-true_in plan state place asked block ok is_block = printed_true plan 1 state ok block.ask block.verdict is_block.verdict
+true_in : (workers : ℕ) (plan : Plan) (state : State) (place : ℕ) (asked : PlanQuestion) (block : QuestionBlock) → StateOk plan workers state → IsBlock plan state place asked block → IfSome block.verdict (λ v. IsTrueOf block.ask v.1)
+true_in workers plan state place asked block ok is_block = printed_true plan workers state ok block.ask block.verdict is_block.verdict
 
 answered : (question : Question) (ask : Inquiry) (verdict : Verdict) → Meaning question ↔ Holds ask → IsTrueOf ask verdict → Answers question verdict
 answered question ask (affirmed certificate) means holds = means.1 holds
@@ -39,12 +40,12 @@ maybe_answered : (question : Question) (ask : Inquiry) (verdict : Option (ℕ ×
 maybe_answered question ask None means h = tt
 maybe_answered question ask (Some v) means h = answered question ask v.1 means h
 
-pub answers_question : (script output : List ℕ) (legal : IsOutput script one_worker output) (step : ℕ) (state : State) (place : ℕ) (question : Question) (asked : PlanQuestion) (block : QuestionBlock) →
+pub answers_question : (workers : ℕ) (policy : PolicyName) (script output : List ℕ) (legal : IsOutput script (params_of workers policy) output) (step : ℕ) (state : State) (place : ℕ) (question : Question) (asked : PlanQuestion) (block : QuestionBlock) →
     slice_get legal.prints.states step ≡ Some state → slice_get legal.scope.questions place ≡ Some question → slice_get legal.scope.plan.questions place ≡ Some asked →
     IsBlock legal.scope.plan state place asked block → IfSome block.verdict (λ v. Answers question v.1)
-answers_question script output legal step state place question asked block at there asked_there is_block =
+answers_question workers policy script output legal step state place question asked block at there asked_there is_block =
     let means = question_means script legal.resolves.script legal.scope place question block.ask legal.resolves.read legal.resolves.means there (asked, asked_there, is_block.asked) in
-    maybe_answered question block.ask block.verdict means (true_in legal.scope.plan state place asked block (ok_at script output legal step state at) is_block)
+    maybe_answered question block.ask block.verdict means (true_in workers legal.scope.plan state place asked block (ok_at workers policy script output legal step state at) is_block)
 
 maybe_agree : (ask : Inquiry) (v w : Option (ℕ × Verdict)) → IfSome v (λ a. IsTrueOf ask a.1) → IfSome w (λ b. IsTrueOf ask b.1) → IfSome v (λ a. IfSome w (λ b. Agree a.1 b.1))
 maybe_agree ask None w h k = tt
@@ -52,9 +53,9 @@ maybe_agree ask (Some a) None h k = tt
 maybe_agree ask (Some a) (Some b) h k = agree ask a.1 b.1 h k
 
 -- verdicts on one Ask agree, also those of two outputs
-pub agree_on_one : (plan other : Plan) (state later : State) (place : ℕ) (elsewhere : ℕ) (asked again : PlanQuestion) (block next : QuestionBlock) → StateOk plan 1 state → StateOk other 1 later →
+pub agree_on_one : (workers many : ℕ) (plan other : Plan) (state later : State) (place : ℕ) (elsewhere : ℕ) (asked again : PlanQuestion) (block next : QuestionBlock) → StateOk plan workers state → StateOk other many later →
     IsBlock plan state place asked block → IsBlock other later elsewhere again next → block.ask ≡ next.ask → IfSome block.verdict (λ v. IfSome next.verdict (λ w. Agree v.1 w.1))
-agree_on_one plan other state later place elsewhere asked again block next ok ok_too is_block is_next same =
+agree_on_one workers many plan other state later place elsewhere asked again block next ok ok_too is_block is_next same =
     maybe_agree next.ask block.verdict next.verdict
-    (subst (λ (a : Inquiry). IfSome block.verdict (λ v. IsTrueOf a v.1)) same (true_in plan state place asked block ok is_block))
-    (true_in other later elsewhere again next ok_too is_next)
+    (subst (λ (a : Inquiry). IfSome block.verdict (λ v. IsTrueOf a v.1)) same (true_in workers plan state place asked block ok is_block))
+    (true_in many other later elsewhere again next ok_too is_next)

@@ -15,7 +15,8 @@ use Rattle.mg_certs.specs.Validity.{Accepted}
 use Rattle.mg_report.specs.Report.{QuestionBlock, question_text, ask_text, found_line, search_text, block_text}
 use Rattle.mg_session.specs.State.{State}
 use Rattle.mg_session.specs.Output.{IsBlock, AreBlocks}
-use Rattle.mg_session.specs.Built.{one_worker}
+use Rattle.mg_command.specs.declared.command.PolicyName.{PolicyName}
+use Rattle.mg_top.specs.Command.{params_of}
 use Rattle.mg_session.specs.Scripts.{IsOutput}
 use Rattle.mg_session.proofs.Printed.{carried}
 use Rattle.mg_session.proofs.Verdicts.{text_at}
@@ -63,7 +64,7 @@ written : (block : QuestionBlock) → block_text block ≡ question_text block.n
 unfolding block_text
 written block = refl
 
-module _ (script output : List ℕ) (legal : IsOutput script one_worker output) (step : ℕ) (state : State) (at : slice_get legal.prints.states step ≡ Some state) where
+module _ (workers : ℕ) (policy : PolicyName) (script output : List ℕ) (legal : IsOutput script (params_of workers policy) output) (step : ℕ) (state : State) (at : slice_get legal.prints.states step ≡ Some state) where
   asked_there : (place : ℕ) (question : PlanQuestion) (ask : Inquiry) → slice_get legal.scope.plan.questions place ≡ Some question → question.asked ≡ plain ask →
       (asked : Question) × (slice_get legal.scope.questions place ≡ Some asked) × IsAskOf asked ask
   asked_there place question ask there is =
@@ -81,14 +82,14 @@ module _ (script output : List ℕ) (legal : IsOutput script one_worker output) 
         there = asked.1;
         asked = asked.2;
         behind = found_line block.names block.verdict;
-        carried = is_carried block.names block.ask block.verdict (carried legal.scope.plan 1 state (ok_at script output legal step state at) block.ask block.verdict is_block.verdict);
+        carried = is_carried block.names block.ask block.verdict (carried legal.scope.plan workers state (ok_at workers policy script output legal step state at) block.ask block.verdict is_block.verdict);
         text = written block;
       }
 
   pub report_carries : (questions : ℕ) (text : List ℕ) → slice_get legal.scope.plan.steps step ≡ Some (report questions) → slice_get legal.prints.texts step ≡ Some text → IsReport legal.scope state questions text
   report_carries questions text at_step at_text =
       let plan = legal.scope.plan in
-      let printed = (text_at plan one_worker [] plan.steps legal.prints.states legal.prints.texts step (report questions) state text legal.prints.texts_are at_step at at_text).2 in
+      let printed = (text_at plan (params_of workers policy) [] plan.steps legal.prints.states legal.prints.texts step (report questions) state text legal.prints.texts_are at_step at at_text).2 in
       let blocks = printed.1 in
       record {
         blocks = blocks;

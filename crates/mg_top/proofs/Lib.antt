@@ -1,4 +1,5 @@
 mod Answered
+mod Worded
 mod Answers
 mod Spent
 mod Carrying

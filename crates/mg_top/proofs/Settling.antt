@@ -19,7 +19,8 @@ use Rattle.mg_plain.specs.Plain.{AcceptedBy}
 use Rattle.mg_search.specs.Search.{ask_of, procedure_of}
 use Rattle.mg_session.specs.State.{State, SearchState}
 use Rattle.mg_session.specs.StateOk.{IsAsked, StateOk}
-use Rattle.mg_session.specs.Built.{one_worker}
+use Rattle.mg_command.specs.declared.command.PolicyName.{PolicyName}
+use Rattle.mg_top.specs.Command.{params_of}
 use Rattle.mg_session.specs.Scripts.{IsOutput}
 use Rattle.mg_session.proofs.Steps.{step_at}
 use Rattle.mg_session.proofs.Reaching.{reaches}
@@ -34,7 +35,7 @@ between (y ∷ before) x after = between before x after
 abbrev FirstBy : Procedure → Inquiry → ℕ → Type 0
 FirstBy procedure ask n = First (AcceptedBy procedure ask) n
 
-module _ (script output : List ℕ) (legal : IsOutput script one_worker output) where
+module _ (workers : ℕ) (policy : PolicyName) (script output : List ℕ) (legal : IsOutput script (params_of workers policy) output) where
   pub first_number : (place : ℕ) (question : Question) (ask : Inquiry) → slice_get legal.scope.questions place ≡ Some question → AskOf legal.scope.plan place ask
       → Meaning question → (n : ℕ) × First (AcceptedAt ask) n
   first_number place question ask there asked meaning =
@@ -47,7 +48,7 @@ module _ (script output : List ℕ) (legal : IsOutput script one_worker output) 
   settled_from place ask n step new asked first r =
       let plan : Plan = legal.scope.plan in
       let states : List State = legal.prints.states in
-      let ok : StateOk plan 1 r.old = ok_at script output legal step r.old r.from in
+      let ok : StateOk plan workers r.old = ok_at workers policy script output legal step r.old r.from in
       let at : slice_get r.old.searches (length r.before) ≡ Some r.search =
       subst (λ (xs : List SearchState). slice_get xs (length r.before) ≡ Some r.search) (sym r.there.place) (between r.before r.search r.after) in
       let own : AskOf plan r.search.question (ask_of r.search.search) = (all_at (IsAsked plan) r.old.searches (length r.before) r.search ok.asked at).asked in
@@ -57,5 +58,5 @@ module _ (script output : List ℕ) (legal : IsOutput script one_worker output) 
       let first_here : FirstBy (procedure_of r.search.search) (ask_of r.search.search) n =
       subst (λ (p : Procedure). FirstBy p (ask_of r.search.search) n) (sym r.there.is_of.of_procedure) by_derive in
       subst (λ (a : Inquiry). Settled key_of new.log a) (sym same)
-      (reaches plan one_worker r.bound r.old new (step_at plan one_worker states legal.prints.session step (run r.bound) r.old new r.runs r.from r.to) ok
+      (reaches plan (params_of workers policy) r.bound r.old new (step_at plan (params_of workers policy) states legal.prints.session step (run r.bound) r.old new r.runs r.from r.to) ok
       (length r.before) r.search at n first_here r.within)

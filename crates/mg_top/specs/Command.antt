@@ -1,21 +1,43 @@
 -- What the program is asked to do, and what it can't do yet.
-use Rattle.std.specs.Prelude.{◌≡◌, ℕ, Option, IfSome, List, [], ◌∷◌, codes}
+use Rattle.std.specs.Prelude.{◌≡◌, ℕ, Bool, Option, IfSome, List}
 use Rattle.std.specs.Borrow.{Bor}
+use Rattle.mg_command.specs.declared.command.Command.TheVariants.{Run, Check, Sample}
+use Rattle.mg_command.specs.declared.command.PolicyName.{PolicyName}
+use Rattle.mg_command.specs.declared.command.PolicyName.TheVariants.{Even, Doubling}
+use Rattle.mg_command.specs.Words.{Says, texts}
+use Rattle.mg_policy.specs.Sizes.{IsEven, IsDoubling}
 use Rattle.mg_names.specs.Scope.{Scope}
+use Rattle.mg_session.specs.State.{Params}
 use Rattle.mg_session.specs.Scripts.{Resolves}
 use Rattle.mg_session.specs.Scripts as session
 use Rattle.mg_top.specs.declared.status.Status.{Status}
 use Rattle.mg_top.specs.declared.status.Status.TheVariants.{Done, ReadFault, WriteFault, ScriptRefused, NoMemory, NotBuilt}
 
--- the words are the one word `run`
-abbrev pub IsRunCommand : List (Bor (List ℕ)) → Type 0
-IsRunCommand [] = ⊥
-IsRunCommand (word ∷ []) = word.now ≡ codes "run"
-IsRunCommand (word ∷ other ∷ words) = ⊥
+-- the sizes of turns by the policy of this name
+abbrev pub sizes_of : PolicyName → ℕ → ℕ → ℕ → ℕ → Type 0
+sizes_of Even turns spent allowed units = IsEven turns spent allowed units
+sizes_of Doubling turns spent allowed units = IsDoubling turns spent allowed units
 
--- what isn't built: other words, told with line 0, and a line of a script, where the source tells it
+-- how a session runs with so many workers, by the policy of this name
+abbrev pub params_of : ℕ → PolicyName → Params
+params_of workers policy = record { workers = workers; IsSize = sizes_of policy }
+
+-- the words are `run` with a number of workers and a policy of which this holds
+abbrev pub AsRun : List (Bor (List ℕ)) → (ℕ → PolicyName → Type 0) → Type 0
+AsRun words Holds = (workers : ℕ) × (policy : PolicyName) × Says (texts words) (Run workers policy) × Holds workers policy
+
+-- the words are a form of `run`
+abbrev pub IsRunCommand : List (Bor (List ℕ)) → Type 0
+IsRunCommand words = (workers : ℕ) × (policy : PolicyName) × Says (texts words) (Run workers policy)
+
+-- the words are a form of `check` or of `sample`
+pub data IsOtherForm (words : List (Bor (List ℕ))) : Type 0 where
+  is_check : Says (texts words) Check → IsOtherForm words
+  is_sample : (number : ℕ) (runs : Bool) → Says (texts words) (Sample number runs) → IsOtherForm words
+
+-- what isn't built: another command, told with line 0, and a line of a script, where the source tells it
 pub data Unbuilt (words : List (Bor (List ℕ))) (script : Option (List ℕ)) (line : ℕ) : Type 0 where
-  other_words : (IsRunCommand words → ⊥) → line ≡ 0 → Unbuilt words script line
+  other_form : IsOtherForm words → line ≡ 0 → Unbuilt words script line
   in_script : IsRunCommand words → IfSome script (λ bytes. session.Unbuilt bytes line) → Unbuilt words script line
 
 -- the script has a meaning, and asks for nothing that isn't built

@@ -4,8 +4,10 @@ use Rattle.std.specs.Fmt.{decimal}
 use Rattle.mg_lex.specs.declared.refusal.Cause.{Cause}
 use Rattle.mg_lex.specs.declared.refusal.Cause.TheVariants as cause
 use Rattle.mg_lex.specs.declared.refusal.Refused.{Refused}
+use Rattle.mg_command.specs.declared.command.UsageCause.{UsageCause}
+use Rattle.mg_command.specs.declared.command.UsageCause.TheVariants.{NoCommand, UnknownCommand, BadWords}
 use Rattle.mg_top.specs.declared.status.Status.{Status}
-use Rattle.mg_top.specs.declared.status.Status.TheVariants.{Done, ReadFault, WriteFault, ScriptRefused, TooLong, NoMemory, NotBuilt}
+use Rattle.mg_top.specs.declared.status.Status.TheVariants.{Done, ReadFault, WriteFault, Usage, ScriptRefused, TooLong, NoMemory, NotBuilt}
 
 -- a cause, by its number and its name
 abbrev pub cause_text : Cause → List ℕ
@@ -30,10 +32,17 @@ at_line line = codes "magnus: line " ++ decimal line
 abbrev pub refused_text : Refused → List ℕ
 refused_text r = at_line r.line ++ codes " column " ++ decimal r.column ++ codes ": " ++ cause_text r.cause
 
+-- why words are no command, by its name
+abbrev pub usage_text : UsageCause → List ℕ
+usage_text NoCommand = codes "magnus: usage: NoCommand"
+usage_text UnknownCommand = codes "magnus: usage: UnknownCommand"
+usage_text BadWords = codes "magnus: usage: BadWords"
+
 abbrev pub message_of : Status → List ℕ
 message_of Done = []
 message_of ReadFault = codes "magnus: read fault"
 message_of WriteFault = codes "magnus: write fault"
+message_of (Usage cause) = usage_text cause
 message_of (ScriptRefused r) = refused_text r
 message_of TooLong = codes "magnus: input too long"
 message_of NoMemory = codes "magnus: no memory"

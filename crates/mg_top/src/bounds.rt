@@ -11,7 +11,7 @@ ghost use Rattle.mg_questions.specs.declared.question.TheConstants.{MOST_GOAL_LE
 ghost use Rattle.mg_names.specs.declared.limits.TheConstants.{ASK_LETTER_LIMIT, REWRITE_LIMIT, COSET_LIMIT};
 ghost use Rattle.mg_names.specs.declared.plan.TheConstants.{MOST_SEARCHES};
 ghost use Rattle.mg_turn.specs.declared.bounds.TheConstants.{MOST_RULES, MOST_SIDE_LETTERS, MOST_LETTERS, MOST_ENTRIES, MOST_MOVES, MOST_SYMBOLS};
-ghost use Rattle.mg_workers.specs.declared.turns.TheConstants.{MOST_UNITS};
+ghost use Rattle.mg_policy.specs.declared.sizes.TheConstants.{MOST_EVEN, MOST_DOUBLINGS};
 
 use crate::status::MOST_SCRIPT_BYTES;
 
@@ -42,7 +42,8 @@ pub fn the_limits()
     ensures completions { REWRITE_LIMIT ≡ 64 }
     ensures enumerations { COSET_LIMIT ≡ 64 }
     ensures funds { MOST_FUNDED ≡ 2 ^ 62 }
-    ensures units { MOST_UNITS ≡ 1024 }
+    ensures even { MOST_EVEN ≡ 1024 }
+    ensures doublings { MOST_DOUBLINGS ≡ 20 }
     ensures rules { MOST_RULES ≡ 4096 }
     ensures side_letters { MOST_SIDE_LETTERS ≡ 2000 }
     ensures letters { MOST_LETTERS ≡ 4000000 }

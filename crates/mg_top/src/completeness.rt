@@ -9,8 +9,9 @@ ghost use Rattle.mg_questions.specs.Meaning.{Meaning};
 ghost use Rattle.mg_names.specs.Plan.{AskOf};
 ghost use Rattle.mg_certs.specs.Validity.{key_of};
 ghost use Rattle.mg_session.specs.State.{State};
-ghost use Rattle.mg_session.specs.Built.{one_worker};
 ghost use Rattle.mg_session.specs.Scripts.{IsOutput};
+ghost use Rattle.mg_command.specs.declared.command.PolicyName.{PolicyName};
+ghost use Rattle.mg_top.specs.Command.{params_of};
 ghost use Rattle.mg_top.specs.Settling.{IsRunReaching};
 
 /// Behind a legal output, a question whose meaning holds has a first number with an accepted derivation of its Ask, and
@@ -18,7 +19,8 @@ ghost use Rattle.mg_top.specs.Settling.{IsRunReaching};
 /// number. The number may be larger than 2^62, and then no reach comes up to it. Nothing is said of questions that
 /// stay open.
 pub fn true_questions_are_settled()
-    ensures { (script output : List ℕ) (legal : IsOutput script one_worker output)
+    ensures { (workers : ℕ) (policy : PolicyName) (script output : List ℕ)
+        (legal : IsOutput script (params_of workers policy) output)
         (place : ℕ) (question : Question) (ask : Inquiry) →
         slice_get legal.scope.questions place ≡ Some question → AskOf legal.scope.plan place ask →
         Meaning question →

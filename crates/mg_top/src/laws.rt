@@ -20,9 +20,10 @@ ghost use Rattle.mg_session.specs.Session.{IsThere};
 ghost use Rattle.mg_session.specs.Output.{IsBlock, line_of};
 ghost use Rattle.mg_session.specs.StateOk.{StateOk};
 ghost use Rattle.mg_session.specs.RunOk.{reach};
-ghost use Rattle.mg_session.specs.Built.{one_worker};
 ghost use Rattle.mg_session.specs.Scripts.{IsOutput};
 ghost use Rattle.mg_session.specs.Printed.{IsPrinted, IsLogOf, Agree};
+ghost use Rattle.mg_command.specs.declared.command.PolicyName.{PolicyName};
+ghost use Rattle.mg_top.specs.Command.{params_of};
 ghost use Rattle.mg_top.specs.Answer.{Answers};
 ghost use Rattle.mg_top.specs.Carried.{IsReport};
 ghost use Rattle.mg_top.specs.Spent.{SpendsAll};
@@ -30,14 +31,16 @@ ghost use Rattle.mg_top.specs.Spent.{SpendsAll};
 /// In every state behind a legal output each account balances, the funds are in the purse, held or
 /// spent, the log is legal, and each search stands as its entries and the verdicts say.
 pub fn states_are_in_order()
-    ensures { (script output : List ℕ) (legal : IsOutput script one_worker output) →
-        AllByRecursion (StateOk legal.scope.plan 1) legal.prints.states }
+    ensures { (workers : ℕ) (policy : PolicyName) (script output : List ℕ)
+        (legal : IsOutput script (params_of workers policy) output) →
+        AllByRecursion (StateOk legal.scope.plan workers) legal.prints.states }
 {}
 
 /// Behind a legal output, an answer that is printed for a question is true: YES says that what the question asks is so,
 /// over all words of its groups, and NO that it isn't.
 pub fn answers_are_true()
-    ensures { (script output : List ℕ) (legal : IsOutput script one_worker output) (step : ℕ)
+    ensures { (workers : ℕ) (policy : PolicyName) (script output : List ℕ)
+        (legal : IsOutput script (params_of workers policy) output) (step : ℕ)
         (state : State) (place : ℕ) (question : Question) (asked : PlanQuestion)
         (block : QuestionBlock) →
         slice_get legal.prints.states step ≡ Some state →
@@ -49,9 +52,11 @@ pub fn answers_are_true()
 
 /// Two answers to one Ask agree, at whatever steps of whatever two scripts they are printed.
 pub fn no_two_verdicts_contradict()
-    ensures { (script output : List ℕ) (legal : IsOutput script one_worker output) (step : ℕ)
+    ensures { (workers : ℕ) (policy : PolicyName) (script output : List ℕ)
+        (legal : IsOutput script (params_of workers policy) output) (step : ℕ)
         (state : State) (place : ℕ) (asked : PlanQuestion) (block : QuestionBlock) →
-        (script' output' : List ℕ) (legal' : IsOutput script' one_worker output') (step' : ℕ)
+        (workers' : ℕ) (policy' : PolicyName) (script' output' : List ℕ)
+        (legal' : IsOutput script' (params_of workers' policy') output') (step' : ℕ)
         (state' : State) (place' : ℕ) (asked' : PlanQuestion) (block' : QuestionBlock) →
         slice_get legal.prints.states step ≡ Some state →
         IsBlock legal.scope.plan state place asked block →
@@ -64,12 +69,14 @@ pub fn no_two_verdicts_contradict()
 /// Behind a legal output, where a report is printed, the units of each search in it are spent, held or returned, and those that
 /// were funded lie in the purse, are held or are spent.
 pub fn units_balance_where_printed()
-    ensures each { (script output : List ℕ) (legal : IsOutput script one_worker output) (step : ℕ)
+    ensures each { (workers : ℕ) (policy : PolicyName) (script output : List ℕ)
+        (legal : IsOutput script (params_of workers policy) output) (step : ℕ)
         (state : State) (place : ℕ) (asked : PlanQuestion) (block : QuestionBlock) →
         slice_get legal.prints.states step ≡ Some state →
         IsBlock legal.scope.plan state place asked block →
         AllByRecursion (λ line. Balanced line.account) block.searches }
-    ensures whole { (script output : List ℕ) (legal : IsOutput script one_worker output)
+    ensures whole { (workers : ℕ) (policy : PolicyName) (script output : List ℕ)
+        (legal : IsOutput script (params_of workers policy) output)
         (step : ℕ) (state : State) →
         slice_get legal.prints.states step ≡ Some state →
         HasBalance state.funded state.purse (accounts state.searches) }
@@ -78,7 +85,8 @@ pub fn units_balance_where_printed()
 /// What is printed of a question, and so of one that is OPEN, names each of its searches with the units that were granted to
 /// it and those that it spent, holds and returned.
 pub fn open_questions_show_their_units()
-    ensures { (script output : List ℕ) (legal : IsOutput script one_worker output) (state : State)
+    ensures { (workers : ℕ) (policy : PolicyName) (script output : List ℕ)
+        (legal : IsOutput script (params_of workers policy) output) (state : State)
         (place : ℕ) (asked : PlanQuestion) (block : QuestionBlock)
         (procedure : Procedure) (before after : List SearchState) (search : SearchState) →
         IsBlock legal.scope.plan state place asked block →
@@ -88,7 +96,8 @@ pub fn open_questions_show_their_units()
 
 /// Behind a legal output, after a run without a bound each search of an unsettled Ask holds no units, or is closed, idle or full.
 pub fn runs_without_a_bound_spend_all()
-    ensures { (script output : List ℕ) (legal : IsOutput script one_worker output) (step : ℕ)
+    ensures { (workers : ℕ) (policy : PolicyName) (script output : List ℕ)
+        (legal : IsOutput script (params_of workers policy) output) (step : ℕ)
         (old new : State) →
         slice_get legal.scope.plan.steps step ≡ Some (run None) →
         slice_get legal.prints.states step ≡ Some old →
@@ -101,7 +110,8 @@ pub fn runs_without_a_bound_spend_all()
 /// spent its reach. Where a search that tests numbered objects keeps the verdict, it has published the object with the
 /// least number.
 pub fn the_first_number_settles()
-    ensures settles { (script output : List ℕ) (legal : IsOutput script one_worker output)
+    ensures settles { (workers : ℕ) (policy : PolicyName) (script output : List ℕ)
+        (legal : IsOutput script (params_of workers policy) output)
         (step : ℕ) (bound : Option ℕ) (old new : State) (place : ℕ) (search : SearchState) (n : ℕ) →
         slice_get legal.scope.plan.steps step ≡ Some (run bound) →
         slice_get legal.prints.states step ≡ Some old →
@@ -109,7 +119,8 @@ pub fn the_first_number_settles()
         slice_get old.searches place ≡ Some search →
         First (AcceptedBy (procedure_of search.search) (ask_of search.search)) n →
         n ≤ reach bound search → Settled key_of new.log (ask_of search.search) }
-    ensures spends { (script output : List ℕ) (legal : IsOutput script one_worker output)
+    ensures spends { (workers : ℕ) (policy : PolicyName) (script output : List ℕ)
+        (legal : IsOutput script (params_of workers policy) output)
         (step : ℕ) (bound : Option ℕ) (old new : State) (place : ℕ) (search : SearchState) →
         slice_get legal.scope.plan.steps step ≡ Some (run bound) →
         slice_get legal.prints.states step ≡ Some old →
@@ -118,7 +129,8 @@ pub fn the_first_number_settles()
         (Settled key_of new.log (ask_of search.search) → ⊥) →
         (after : SearchState) × (slice_get new.searches place ≡ Some after) ×
         (after.account.spent ≡ reach bound search) }
-    ensures least { (script output : List ℕ) (legal : IsOutput script one_worker output)
+    ensures least { (workers : ℕ) (policy : PolicyName) (script output : List ℕ)
+        (legal : IsOutput script (params_of workers policy) output)
         (step : ℕ) (state : State) (place : ℕ) (search : SearchState) (entry : EntryOf Fact) →
         slice_get legal.prints.states step ≡ Some state →
         slice_get state.searches place ≡ Some search → TestsNumbered search.search →
@@ -131,16 +143,19 @@ pub fn the_first_number_settles()
 /// same state which entries they are the records of: those that it prints as kept, in order and as many of each as it
 /// prints, and of no other.
 pub fn printed_facts_are_those_kept()
-    ensures valid { (script output : List ℕ) (legal : IsOutput script one_worker output)
+    ensures valid { (workers : ℕ) (policy : PolicyName) (script output : List ℕ)
+        (legal : IsOutput script (params_of workers policy) output)
         (step : ℕ) (state : State) →
         slice_get legal.prints.states step ≡ Some state →
         AllByRecursion IsValid (facts_of state.log) }
-    ensures facts { (script output : List ℕ) (legal : IsOutput script one_worker output)
+    ensures facts { (workers : ℕ) (policy : PolicyName) (script output : List ℕ)
+        (legal : IsOutput script (params_of workers policy) output)
         (step : ℕ) (state : State) (text : List ℕ) →
         slice_get legal.scope.plan.steps step ≡ Some report_facts →
         slice_get legal.prints.states step ≡ Some state →
         slice_get legal.prints.texts step ≡ Some text → text ≡ facts_text (facts_of state.log) }
-    ensures log { (script output : List ℕ) (legal : IsOutput script one_worker output) (step : ℕ)
+    ensures log { (workers : ℕ) (policy : PolicyName) (script output : List ℕ)
+        (legal : IsOutput script (params_of workers policy) output) (step : ℕ)
         (state : State) (text : List ℕ) →
         slice_get legal.scope.plan.steps step ≡ Some report_log →
         slice_get legal.prints.states step ≡ Some state →
@@ -150,7 +165,8 @@ pub fn printed_facts_are_those_kept()
 /// Behind a legal output each verdict that is printed, in the block of a question or of a fact, carries a certificate that
 /// is accepted for the Ask above it, and is true of it.
 pub fn printed_verdicts_hold()
-    ensures { (script output : List ℕ) (legal : IsOutput script one_worker output) (ask : Inquiry)
+    ensures { (workers : ℕ) (policy : PolicyName) (script output : List ℕ)
+        (legal : IsOutput script (params_of workers policy) output) (ask : Inquiry)
         (verdict : Verdict) →
         IsPrinted legal.scope.plan legal.prints.states ask verdict →
         Accepted ask verdict × IsTrueOf ask verdict }
@@ -159,9 +175,11 @@ pub fn printed_verdicts_hold()
 /// Two verdicts that are printed on one Ask agree, wherever they stand in whatever two outputs.
 pub fn printed_verdicts_agree()
     ensures { (ask : Inquiry) (one other : Verdict) →
-        (script output : List ℕ) (legal : IsOutput script one_worker output) →
+        (workers : ℕ) (policy : PolicyName) (script output : List ℕ)
+        (legal : IsOutput script (params_of workers policy) output) →
         IsPrinted legal.scope.plan legal.prints.states ask one →
-        (script' output' : List ℕ) (legal' : IsOutput script' one_worker output') →
+        (workers' : ℕ) (policy' : PolicyName) (script' output' : List ℕ)
+        (legal' : IsOutput script' (params_of workers' policy') output') →
         IsPrinted legal'.scope.plan legal'.prints.states ask other → Agree one other }
 {}
 
@@ -169,7 +187,8 @@ pub fn printed_verdicts_agree()
 /// the line behind the goals is the text of a verdict that is accepted for this Ask; where the question is open there is
 /// no such line.
 pub fn reports_carry_certificates()
-    ensures { (script output : List ℕ) (legal : IsOutput script one_worker output)
+    ensures { (workers : ℕ) (policy : PolicyName) (script output : List ℕ)
+        (legal : IsOutput script (params_of workers policy) output)
         (step questions : ℕ) (state : State) (text : List ℕ) →
         slice_get legal.scope.plan.steps step ≡ Some (report questions) →
         slice_get legal.prints.states step ≡ Some state →

@@ -1,9 +1,10 @@
 //! What the program says of how it ended.
 ghost use Rattle.std.specs.Prelude.{◌≡◌, ◌++◌, IfOk, OnOk, codes};
 ghost use Rattle.std.specs.Fmt.{decimal};
-ghost use Rattle.mg_top.specs.Message.{cause_text, at_line, refused_text, message_of};
+ghost use Rattle.mg_top.specs.Message.{cause_text, at_line, refused_text, usage_text, message_of};
 
 use crate::status::Status;
+use mg_command::UsageCause;
 use mg_lex::{Cause, Refused, Text};
 use mg_lists::NoMemory;
 use std::alloc::Global;
@@ -16,6 +17,7 @@ pub fn message(alloc: Global, status: &Status) -> Result<Text, NoMemory>
         Status::Done => Ok(Text::new(alloc)),
         Status::ReadFault => text_of(alloc, b"magnus: read fault"),
         Status::WriteFault => text_of(alloc, b"magnus: write fault"),
+        Status::Usage(cause) => text_of(alloc, text_of_usage(*cause)),
         Status::ScriptRefused(refused) => refusal(alloc, *refused),
         Status::TooLong => text_of(alloc, b"magnus: input too long"),
         Status::NoMemory => text_of(alloc, b"magnus: no memory"),
@@ -65,6 +67,17 @@ fn text_of_cause(cause: Cause) -> &'static [u8]
         Cause::GeneratorTwice => b"S12 GeneratorTwice",
         Cause::ImageMissing => b"S13 ImageMissing",
         Cause::ProcedureDoesNotApply => b"S14 ProcedureDoesNotApply",
+    }
+}
+
+/// What is said of words that ask for nothing.
+fn text_of_usage(cause: UsageCause) -> &'static [u8]
+    ensures { result.now ≡ usage_text cause }
+{
+    match cause {
+        UsageCause::NoCommand => b"magnus: usage: NoCommand",
+        UsageCause::UnknownCommand => b"magnus: usage: UnknownCommand",
+        UsageCause::BadWords => b"magnus: usage: BadWords",
     }
 }
 

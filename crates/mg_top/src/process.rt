@@ -4,6 +4,7 @@ use crate::gate::NoGate;
 use crate::messages::message;
 use crate::status::{Status, code};
 use crate::top::magnus;
+use mg_command::UsageCause;
 use mg_io::{InputSource, OutputSink};
 use std::process::ExitCode;
 use std::rt::Env;
@@ -34,11 +35,10 @@ fn tell<R: Eprint + AllocGlobal>(rt: &R, status: &Status) {
     }
 }
 
-/// Calls the top call on the command words, standard input and standard output. Words that are no
-/// text are words that the program doesn't know.
+/// Calls the top call on the command words, standard input and standard output. Words that are no text are bad ones.
 fn run<R: Env + Input + Print + AllocGlobal + Threads + Wait + Sync>(rt: &R) -> Status {
     let Ok(args) = env::args(rt) else {
-        return Status::NotBuilt { line: 0 };
+        return Status::Usage(UsageCause::BadWords);
     };
     let Ok(args) = args.skip(1).collect::<Vec<String>>(rt.alloc()) else {
         return Status::NoMemory;

@@ -2,6 +2,7 @@
 ghost use Rattle.std.specs.Prelude.{◌≡◌};
 ghost use Rattle.mg_top.specs.Exit.{exit_of};
 
+use mg_command::UsageCause;
 use mg_lex::Refused;
 
 /// How many bytes a script may have.
@@ -16,6 +17,8 @@ pub enum Status {
     ReadFault,
     /// The sink failed. What it took is the beginning of an output.
     WriteFault,
+    /// The command words ask for nothing. Nothing was read or written.
+    Usage(UsageCause),
     /// The input is no script, or its names and statements have no meaning. Nothing was written.
     ScriptRefused(Refused),
     /// The input has too many bytes. Nothing was written.
@@ -36,6 +39,7 @@ pub fn code(status: &Status) -> u8
     match status {
         Status::Done => 0,
         Status::ReadFault | Status::WriteFault => 1,
+        Status::Usage(_) => 2,
         Status::ScriptRefused(_) | Status::TooLong => 3,
         Status::NoMemory => 4,
         Status::NotBuilt { .. } => 6,

@@ -1,6 +1,7 @@
 ghost use Rattle.std.specs.Prelude.{◌≤◌};
 
 use super::*;
+use mg_command::UsageCause;
 use mg_io::{MemorySink, MemorySource};
 use mg_lex::{Cause, Refused};
 use std::sync::Wait;
@@ -13,14 +14,19 @@ mod reduced;
 mod refuted;
 mod rows;
 mod tabled;
+mod words;
+
+/// The words by which rows are run.
+const ROW_WORDS: &[&str] = &["run", "--workers", "1"];
 
 const SQUARE: &[u8] =
     b"group G = < a | a^2 >\nask q : a^2 = 1 in G\nfund 100\ngrant q derive 21\nrun\nreport\n";
 
-/// The status and what was written, where the source fails at some reads and the sink, which takes at
+/// The status and what was written by these words, where the source fails at some reads and the sink, which takes at
 /// most so many bytes a call, at some writes.
 fn run_on<R: AllocGlobal + Threads + Wait + Sync>(
     rt: &R,
+    words: &[&str],
     script: &[u8],
     failing_reads: &[u64],
     most: usize,
@@ -32,7 +38,7 @@ fn run_on<R: AllocGlobal + Threads + Wait + Sync>(
     let bytes = Vec::from_slice(alloc, script)?;
     let mut source = MemorySource::new(alloc, bytes, 4096, Vec::from_slice(alloc, failing_reads)?);
     let mut sink = MemorySink::new(alloc, most, Vec::from_slice(alloc, failing_writes)?);
-    let status = magnus(rt, alloc, &["run"], &mut source, &mut sink, &NoGate);
+    let status = magnus(rt, alloc, words, &mut source, &mut sink, &NoGate);
     Ok((status, Vec::from_slice(alloc, sink.taken())?))
 }
 
@@ -71,7 +77,19 @@ fn ends<R: AllocGlobal + Threads + Wait + Sync>(
     status: Status,
     output: &[u8],
 ) -> Result<bool, Fail> {
-    let (ended, taken) = run_on(rt, script, failing_reads, 10, failing_writes)?;
+    let (ended, taken) = run_on(rt, ROW_WORDS, script, failing_reads, 10, failing_writes)?;
+    Ok(ended == status && taken.as_slice() == output)
+}
+
+/// Whether a script ends with this status by these words, and this was written then.
+fn ends_by<R: AllocGlobal + Threads + Wait + Sync>(
+    rt: &R,
+    words: &[&str],
+    script: &[u8],
+    status: Status,
+    output: &[u8],
+) -> Result<bool, Fail> {
+    let (ended, taken) = run_on(rt, words, script, &[], 10, &[])?;
     Ok(ended == status && taken.as_slice() == output)
 }
 
@@ -136,6 +154,21 @@ fn faults_have_their_exits(rt: HostRuntime) -> Result<(), Fail> {
     assert!(rt; tells(&rt, Status::Done, 0, b"")?);
     assert!(rt; tells(&rt, Status::ReadFault, 1, b"magnus: read fault")?);
     assert!(rt; tells(&rt, Status::WriteFault, 1, b"magnus: write fault")?);
+    Ok(())
+}
+
+#[test]
+fn words_have_their_exits(rt: HostRuntime) -> Result<(), Fail> {
+    for (cause, said) in [
+        (UsageCause::NoCommand, &b"magnus: usage: NoCommand"[..]),
+        (
+            UsageCause::UnknownCommand,
+            &b"magnus: usage: UnknownCommand"[..],
+        ),
+        (UsageCause::BadWords, &b"magnus: usage: BadWords"[..]),
+    ] {
+        assert!(rt; tells(&rt, Status::Usage(cause), 2, said)?);
+    }
     Ok(())
 }
 

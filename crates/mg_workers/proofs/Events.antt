@@ -115,3 +115,42 @@ module _ {R K G S : Type 0} (recording : Recording R K G) (searching : Searching
     -- what stays of each row in a run
     pub runs_keep : (old new : Running R S) → AreFunded old.rows → Run old new → EachPair (Keeps searching) old.rows new.rows
     runs_keep old new funded h = leads_keep h.0 old new funded h.1
+
+-- a run is one with more workers too, and one with a wider relation of sizes
+module _ {R K G S : Type 0} (recording : Recording R K G) (searching : Searching R K G S) (begin : List (Entry R)) (workers more : ℕ) (IsSize Wider : ℕ → ℕ → ℕ → ℕ → Type 0) (fewer : workers ≤ more) (wider : (turns spent allowed units : ℕ) → IsSize turns spent allowed units → Wider turns spent allowed units) where
+  event_widens : (old new : Running R S) → Event recording searching workers IsSize begin old new → Event recording searching more Wider begin old new
+  event_widens old new e = record {
+    place = e.place;
+    row = e.row;
+    of_row = e.of_row;
+    stays = e.stays;
+    allowed = e.allowed;
+    openness = e.openness;
+    pass = e.pass;
+    pass_from = e.pass_from;
+    pass_upto = omega (arith, e.pass_upto, fewer);
+    units = e.units;
+    is_size = wider e.row.turns e.row.spent e.row.allowed e.units e.is_size;
+    units_from = e.units_from;
+    units_upto = e.units_upto;
+    seen = e.seen;
+    seen_all_before = e.seen_all_before;
+    seen_is_there = e.seen_is_there;
+    facts = e.facts;
+    handed = e.handed;
+    outcome = e.outcome;
+    search = e.search;
+    turn = e.turn;
+    dropped = e.dropped;
+    is_dropped = e.is_dropped;
+    log = e.log;
+    rows = e.rows;
+    once = e.once;
+  }
+
+  leads_widen : (states : List (Running R S)) (old new : Running R S) → Leads recording searching workers IsSize begin old states new → Leads recording searching more Wider begin old states new
+  leads_widen [] old new h = h
+  leads_widen (mid ∷ states) old new h = (event_widens old mid h.0, leads_widen states mid new h.1)
+
+  pub runs_widen : (old new : Running R S) → Runs recording searching workers IsSize begin old new → Runs recording searching more Wider begin old new
+  runs_widen old new h = (h.0, leads_widen h.0 old new h.1)

@@ -1,5 +1,5 @@
 -- Lemmas on one worker that goes round its searches.
-use Rattle.std.proofs.Common.{◌≡◌, ℕ, zero, suc, ◌+◌, ◌-◌, ◌*◌, ◌<◌, ◌≤◌, ◌^◌, ◌↔◌, ◌⊎◌, inl, inr, min, Bool, true, false, cond, not, ◌||◌, ◌&&◌, List, [], ◌∷◌, ◌++◌, Some, length, get_or, map, take, drop, set, reverse, refl, ap, sym, ◌∙◌, subst, arith, append-nil, append_assoc}
+use Rattle.std.proofs.Common.{◌≡◌, ℕ, zero, suc, ◌+◌, ◌-◌, ◌*◌, ◌<◌, ◌≤◌, ◌^◌, ◌↔◌, ◌⊎◌, inl, inr, min, Bool, true, false, cond, not, ◌||◌, ◌&&◌, List, [], ◌∷◌, ◌++◌, Some, None, length, get_or, map, take, drop, set, reverse, refl, ap, sym, ◌∙◌, subst, arith, append-nil, append_assoc}
 use Rattle.std.specs.Prelude.{slice_get, Result, Ok, Err, IsTrue, IsSome, IsNone, IfSome, IfOk, OnOk, OnErr, Option}
 use Rattle.std.specs.List.{AllByRecursion}
 use Rattle.std.proofs.lemmas.List.{length-map, map-append, map-set, reverse-append}
@@ -20,7 +20,7 @@ use Rattle.mg_workers.specs.declared.held.End.{End}
 use Rattle.mg_workers.specs.declared.held.End.TheVariants as ends
 use Rattle.mg_workers.specs.Run.{Row, Running, Begins, Event, Runs, Finished, entry_of, row_after, end_after, leaves_at}
 use Rattle.mg_workers.specs.Rows.{EachPair}
-use Rattle.mg_workers.specs.Round.{even, row_of, entered, ComesTo, IsFit, GoesRound}
+use Rattle.mg_workers.specs.Round.{row_of, entered, ComesTo, IsFit, GoesRound}
 use Rattle.mg_workers.specs.Seats.{seat_of, row_at, seated, cells_of, turns_ahead, Follows, PutsDown, whole, after_whole}
 use Rattle.mg_workers.proofs.Pairs.{all_at, all_set, only}
 use Rattle.mg_workers.proofs.Counts.{event_uses, total, total-set, chances}
@@ -277,9 +277,9 @@ pub fit_at : {R K G S : Type 0} (searching : Searching R K G S) (seats : List (S
 fit_at searching seats place seat here fit = all_at (IsFit searching) (map row_at seats) place (row_at seat) fit (get_map row_at seats place seat here)
 
 -- how far one worker has come with a round of turns: up to which place, and whether some search took one
-module _ {R K G S : Type 0} (recording : Recording R K G) (searching : Searching R K G S) where
+module _ {R K G S : Type 0} (recording : Recording R K G) (searching : Searching R K G S) (IsSize : ℕ → ℕ → ℕ → ℕ → Type 0) where
   pub record Goes (before : List (Seat S)) (begin : List (Entry R)) (seats : List (Seat S)) (log : List (Entry R)) (some : Bool) (place : ℕ) : Type 0 where
-    pub runs : (first : List (Entry R)) → Begins first begin → Runs recording searching 1 even first (seated before begin) (seated seats log)
+    pub runs : (first : List (Entry R)) → Begins first begin → Runs recording searching 1 IsSize first (seated before begin) (seated seats log)
     pub fit : AllByRecursion (IsFit searching) (map row_at seats)
     pub cells : cells_of seats ≡ cells_of before
     pub fewer : turns_ahead (map row_at seats) + cond some 1 0 ≤ turns_ahead (map row_at before)
@@ -296,17 +296,17 @@ module _ {R K G S : Type 0} (recording : Recording R K G) (searching : Searching
   }
 
   pub goes_on_by : Sound recording searching → (before : List (Seat S)) (begin : List (Entry R)) (seats : List (Seat S)) (log more : List (Entry R)) (some : Bool) (place : ℕ) (seat after : Seat S) → slice_get seats place ≡ Some seat →
-      ((first : List (Entry R)) → Begins first log → Happens recording searching 1 even first (seated (seat ∷ []) log) (seated (after ∷ []) more)) → after.held.cell ≡ seat.held.cell →
+      ((first : List (Entry R)) → Begins first log → Happens recording searching 1 IsSize first (seated (seat ∷ []) log) (seated (after ∷ []) more)) → after.held.cell ≡ seat.held.cell →
       Goes before begin seats log some place → Goes before begin (set seats place after) more true (suc place)
   goes_on_by sound before begin seats log more some place seat after here turn cell goes =
-      let event = λ (first : List (Entry R)) (begins : Begins first log). event_of_seat recording searching 1 even first seats place seat after log more here (turn first begins) in
-      let falls = event_falls recording searching 1 even log sound (seated seats log) (seated (set seats place after) more) (event log (begins_itself log)) in
+      let event = λ (first : List (Entry R)) (begins : Begins first log). event_of_seat recording searching 1 IsSize first seats place seat after log more here (turn first begins) in
+      let falls = event_falls recording searching 1 IsSize log sound (seated seats log) (seated (set seats place after) more) (event log (begins_itself log)) in
       record {
         runs = λ first begins.
             let run = goes.runs first begins in
-            let grown = runs_begins recording searching 1 even first (seated before begin) (seated seats log) run in
-            runs_push recording searching 1 even first (seated before begin) (seated seats log) (seated (set seats place after) more) run (event first (begins_then first begin log begins grown));
-        fit = event_fits recording searching 1 even log sound (seated seats log) (seated (set seats place after) more) goes.fit (event log (begins_itself log));
+            let grown = runs_begins recording searching 1 IsSize first (seated before begin) (seated seats log) run in
+            runs_push recording searching 1 IsSize first (seated before begin) (seated seats log) (seated (set seats place after) more) run (event first (begins_then first begin log begins grown));
+        fit = event_fits recording searching 1 IsSize log sound (seated seats log) (seated (set seats place after) more) goes.fit (event log (begins_itself log));
         cells = cells_stay seats place seat after here cell ∙ goes.cells;
         fewer = omega (arith, falls, goes.fewer);
         over = λ none. absurd (let bad : true ≡ false = none in cc);
@@ -321,64 +321,64 @@ module _ {R K G S : Type 0} (recording : Recording R K G) (searching : Searching
       (subst (λ at. Goes before begin seats log some at) (sym place_is) goes)))
 
   -- a run that comes to a log, and one that goes on from there
-  pub comes_to : (first : List (Entry R)) (old : Running R S) (seats : List (Seat S)) (log new : List (Entry R)) → new ≡ log → Runs recording searching 1 even first old (seated seats log) → ComesTo recording searching first old new
-  comes_to first old seats log new same run = (map row_at seats, subst (λ entries. Runs recording searching 1 even first old (record { rows = map row_at seats; log = entries })) (sym same) run)
+  pub comes_to : (first : List (Entry R)) (old : Running R S) (seats : List (Seat S)) (log new : List (Entry R)) → new ≡ log → Runs recording searching 1 IsSize first old (seated seats log) → ComesTo recording searching IsSize first old new
+  comes_to first old seats log new same run = (map row_at seats, subst (λ entries. Runs recording searching 1 IsSize first old (record { rows = map row_at seats; log = entries })) (sym same) run)
 
-  pub comes_then : (first : List (Entry R)) (old mid : Running R S) (log : List (Entry R)) → Runs recording searching 1 even first old mid → ComesTo recording searching first mid log → ComesTo recording searching first old log
-  comes_then first old mid log run h = (h.0, runs_then recording searching 1 even first old mid (record { rows = h.0; log = log }) run h.1)
+  pub comes_then : (first : List (Entry R)) (old mid : Running R S) (log : List (Entry R)) → Runs recording searching 1 IsSize first old mid → ComesTo recording searching IsSize first mid log → ComesTo recording searching IsSize first old log
+  comes_then first old mid log run h = (h.0, runs_then recording searching 1 IsSize first old mid (record { rows = h.0; log = log }) run h.1)
 
   -- where memory is wanting at the next turn of a round
   pub goes_lost : (before : List (Seat S)) (begin : List (Entry R)) (seats : List (Seat S)) (log : List (Entry R)) (some : Bool) (place : ℕ) (new : List (Entry R)) → new ≡ log → Goes before begin seats log some place →
-      (first : List (Entry R)) → Begins first begin → ComesTo recording searching first (seated before begin) new
+      (first : List (Entry R)) → Begins first begin → ComesTo recording searching IsSize first (seated before begin) new
   goes_lost before begin seats log some place new same goes first begins = comes_to first (seated before begin) seats log new same (goes.runs first begins)
 
   -- what a run of a search alone has come to: it leads from the start to here, and the search is fit
   pub record Alone (start : Seat S) (begin : List (Entry R)) (here : Seat S) (log : List (Entry R)) : Type 0 where
-    pub runs : (first : List (Entry R)) → Begins first begin → Runs recording searching 1 even first (seated (start ∷ []) begin) (seated (here ∷ []) log)
+    pub runs : (first : List (Entry R)) → Begins first begin → Runs recording searching 1 IsSize first (seated (start ∷ []) begin) (seated (here ∷ []) log)
     pub fit : IsFit searching (row_at here)
 
   pub alone_in : (seat : Seat S) (log : List (Entry R)) → IsFit searching (row_at seat) → Alone seat log seat log
   alone_in seat log fit = record { runs = λ first begins. ([], refl); fit = fit }
 
   pub alone_next : Sound recording searching → (start : Seat S) (begin : List (Entry R)) (seat after : Seat S) (log more : List (Entry R)) →
-      ((first : List (Entry R)) → Begins first log → Happens recording searching 1 even first (seated (seat ∷ []) log) (seated (after ∷ []) more)) →
+      ((first : List (Entry R)) → Begins first log → Happens recording searching 1 IsSize first (seated (seat ∷ []) log) (seated (after ∷ []) more)) →
       Alone start begin seat log → Alone start begin after more
   alone_next sound start begin seat after log more turn alone = record {
     runs = λ first begins.
         let run = alone.runs first begins in
-        let grown = runs_begins recording searching 1 even first (seated (start ∷ []) begin) (seated (seat ∷ []) log) run in
-        runs_push recording searching 1 even first (seated (start ∷ []) begin) (seated (seat ∷ []) log) (seated (after ∷ []) more) run (turn first (begins_then first begin log begins grown));
-    fit = (event_fits recording searching 1 even log sound (seated (seat ∷ []) log) (seated (after ∷ []) more) (alone.fit, tt) (turn log (begins_itself log))).0;
+        let grown = runs_begins recording searching 1 IsSize first (seated (start ∷ []) begin) (seated (seat ∷ []) log) run in
+        runs_push recording searching 1 IsSize first (seated (start ∷ []) begin) (seated (seat ∷ []) log) (seated (after ∷ []) more) run (turn first (begins_then first begin log begins grown));
+    fit = (event_fits recording searching 1 IsSize log sound (seated (seat ∷ []) log) (seated (after ∷ []) more) (alone.fit, tt) (turn log (begins_itself log))).0;
   }
 
   -- and it may go on by another run
   pub alone_then : (start : Seat S) (begin : List (Entry R)) (seat after : Seat S) (log more : List (Entry R)) →
-      ((first : List (Entry R)) → Begins first log → Runs recording searching 1 even first (seated (seat ∷ []) log) (seated (after ∷ []) more)) → IsFit searching (row_at after) →
+      ((first : List (Entry R)) → Begins first log → Runs recording searching 1 IsSize first (seated (seat ∷ []) log) (seated (after ∷ []) more)) → IsFit searching (row_at after) →
       Alone start begin seat log → Alone start begin after more
   alone_then start begin seat after log more run fit alone = record {
     runs = λ first begins.
         let before = alone.runs first begins in
-        let grown = runs_begins recording searching 1 even first (seated (start ∷ []) begin) (seated (seat ∷ []) log) before in
-        runs_then recording searching 1 even first (seated (start ∷ []) begin) (seated (seat ∷ []) log) (seated (after ∷ []) more) before (run first (begins_then first begin log begins grown));
+        let grown = runs_begins recording searching 1 IsSize first (seated (start ∷ []) begin) (seated (seat ∷ []) log) before in
+        runs_then recording searching 1 IsSize first (seated (start ∷ []) begin) (seated (seat ∷ []) log) (seated (after ∷ []) more) before (run first (begins_then first begin log begins grown));
     fit = fit;
   }
 
   -- where memory is wanting at the next turn, or in the run by which it goes on
   pub alone_lost : (start : Seat S) (begin : List (Entry R)) (seat : Seat S) (log new : List (Entry R)) → new ≡ log → Alone start begin seat log →
-      (first : List (Entry R)) → Begins first begin → ComesTo recording searching first (seated (start ∷ []) begin) new
+      (first : List (Entry R)) → Begins first begin → ComesTo recording searching IsSize first (seated (start ∷ []) begin) new
   alone_lost start begin seat log new same alone first begins = comes_to first (seated (start ∷ []) begin) (seat ∷ []) log new same (alone.runs first begins)
 
   pub alone_lost_later : (start : Seat S) (begin : List (Entry R)) (seat : Seat S) (log new : List (Entry R)) →
-      ((first : List (Entry R)) → Begins first log → ComesTo recording searching first (seated (seat ∷ []) log) new) → Alone start begin seat log →
-      (first : List (Entry R)) → Begins first begin → ComesTo recording searching first (seated (start ∷ []) begin) new
+      ((first : List (Entry R)) → Begins first log → ComesTo recording searching IsSize first (seated (seat ∷ []) log) new) → Alone start begin seat log →
+      (first : List (Entry R)) → Begins first begin → ComesTo recording searching IsSize first (seated (start ∷ []) begin) new
   alone_lost_later start begin seat log new later alone first begins =
       let run = alone.runs first begins in
-      let grown = runs_begins recording searching 1 even first (seated (start ∷ []) begin) (seated (seat ∷ []) log) run in
+      let grown = runs_begins recording searching 1 IsSize first (seated (start ∷ []) begin) (seated (seat ∷ []) log) run in
       comes_then first (seated (start ∷ []) begin) (seated (seat ∷ []) log) new run (later first (begins_then first begin log begins grown))
 
   -- how far one worker has come with its searches
   pub record Went (searches : List (Held S)) (begin : List (Entry R)) (seats : List (Seat S)) (log : List (Entry R)) : Type 0 where
-    pub runs : Runs recording searching 1 even begin (entered searches begin) (seated seats log)
+    pub runs : Runs recording searching 1 IsSize begin (entered searches begin) (seated seats log)
     pub fit : AllByRecursion (IsFit searching) (map row_at seats)
     pub cells : cells_of seats ≡ map (λ (search : Held S). search.cell) searches
 
@@ -392,33 +392,33 @@ module _ {R K G S : Type 0} (recording : Recording R K G) (searching : Searching
       }
 
   pub went_round : (searches : List (Held S)) (begin : List (Entry R)) (seats now : List (Seat S)) (log : List (Entry R)) (after kept : List (Seat S)) (more : List (Entry R)) → Went searches begin seats log → now ≡ seats → kept ≡ after →
-      ((first : List (Entry R)) → Begins first log → Runs recording searching 1 even first (seated now log) (seated after more)) → AllByRecursion (IsFit searching) (map row_at after) → cells_of after ≡ cells_of now →
+      ((first : List (Entry R)) → Begins first log → Runs recording searching 1 IsSize first (seated now log) (seated after more)) → AllByRecursion (IsFit searching) (map row_at after) → cells_of after ≡ cells_of now →
       Went searches begin kept more
   went_round searches begin seats now log after kept more went same back run fit cells =
       let there = subst (λ members. Went searches begin members log) (sym same) went in
-      let grown = runs_begins recording searching 1 even begin (entered searches begin) (seated now log) there.runs in
+      let grown = runs_begins recording searching 1 IsSize begin (entered searches begin) (seated now log) there.runs in
       subst (λ members. Went searches begin members more) (sym back) (record {
-        runs = runs_then recording searching 1 even begin (entered searches begin) (seated now log) (seated after more) there.runs (run begin grown);
+        runs = runs_then recording searching 1 IsSize begin (entered searches begin) (seated now log) (seated after more) there.runs (run begin grown);
         fit = fit;
         cells = cells ∙ there.cells;
       })
 
   -- where memory is wanting before the first turn
-  pub came_nowhere : (searches : List (Held S)) (log : List (Entry R)) → ComesTo recording searching log (entered searches log) log
+  pub came_nowhere : (searches : List (Held S)) (log : List (Entry R)) → ComesTo recording searching IsSize log (entered searches log) log
   came_nowhere searches log = (map (row_of false false) searches, ([], refl))
 
   -- where it is wanting in a round, or behind the last one
   pub went_lost : (searches : List (Held S)) (begin : List (Entry R)) (seats now : List (Seat S)) (log new : List (Entry R)) → Went searches begin seats log → now ≡ seats →
-      ((first : List (Entry R)) → Begins first log → ComesTo recording searching first (seated now log) new) → ComesTo recording searching begin (entered searches begin) new
+      ((first : List (Entry R)) → Begins first log → ComesTo recording searching IsSize first (seated now log) new) → ComesTo recording searching IsSize begin (entered searches begin) new
   went_lost searches begin seats now log new went same later =
       let there = subst (λ members. Went searches begin members log) (sym same) went in
-      let grown = runs_begins recording searching 1 even begin (entered searches begin) (seated now log) there.runs in
+      let grown = runs_begins recording searching 1 IsSize begin (entered searches begin) (seated now log) there.runs in
       comes_then begin (entered searches begin) (seated now log) new there.runs (later begin grown)
 
-  pub went_last : (searches : List (Held S)) (begin : List (Entry R)) (seats : List (Seat S)) (log new : List (Entry R)) → new ≡ log → Went searches begin seats log → ComesTo recording searching begin (entered searches begin) new
+  pub went_last : (searches : List (Held S)) (begin : List (Entry R)) (seats : List (Seat S)) (log new : List (Entry R)) → new ≡ log → Went searches begin seats log → ComesTo recording searching IsSize begin (entered searches begin) new
   went_last searches begin seats log new same went = comes_to begin (entered searches begin) seats log new same went.runs
 
-  pub went_out : (searches : List (Held S)) (begin : List (Entry R)) (seats : List (Seat S)) (log : List (Entry R)) (after : List (Held S)) → Went searches begin seats log → Finished (seated seats log) → after ≡ map (λ (seat : Seat S). seat.held) seats → GoesRound recording searching searches begin after log
+  pub went_out : (searches : List (Held S)) (begin : List (Entry R)) (seats : List (Seat S)) (log : List (Entry R)) (after : List (Held S)) → Went searches begin seats log → Finished (seated seats log) → after ≡ map (λ (seat : Seat S). seat.held) seats → GoesRound recording searching IsSize searches begin after log
   went_out searches begin seats log after went finished after_is = record {
     last = seated seats log;
     runs = went.runs;
@@ -433,26 +433,26 @@ pub seats_fit : {R K G S : Type 0} (searching : Searching R K G S) (searches : L
 seats_fit searching searches seats now fit seats_are same = subst (AllByRecursion (IsFit searching)) (sym (ap (map row_at) (same ∙ seats_are) ∙ rows_of_new searches)) fit
 
 -- a run of one search is a run of the searches of which there is one
-pub runs_of_one : {R K G S : Type 0} (recording : Recording R K G) (searching : Searching R K G S) (seats now : List (Seat S)) (seat after : Seat S) (log more : List (Entry R)) → seats ≡ seat ∷ [] → now ≡ after ∷ [] →
-    ((first : List (Entry R)) → Begins first log → Runs recording searching 1 even first (seated (seat ∷ []) log) (seated (after ∷ []) more)) →
-    (first : List (Entry R)) → Begins first log → Runs recording searching 1 even first (seated seats log) (seated now more)
-runs_of_one recording searching seats now seat after log more was is run first begins =
-    subst (λ members. Runs recording searching 1 even first (seated seats log) (seated members more)) (sym is)
-    (subst (λ members. Runs recording searching 1 even first (seated members log) (seated (after ∷ []) more)) (sym was) (run first begins))
+pub runs_of_one : {R K G S : Type 0} (recording : Recording R K G) (searching : Searching R K G S) (IsSize : ℕ → ℕ → ℕ → ℕ → Type 0) (seats now : List (Seat S)) (seat after : Seat S) (log more : List (Entry R)) → seats ≡ seat ∷ [] → now ≡ after ∷ [] →
+    ((first : List (Entry R)) → Begins first log → Runs recording searching 1 IsSize first (seated (seat ∷ []) log) (seated (after ∷ []) more)) →
+    (first : List (Entry R)) → Begins first log → Runs recording searching 1 IsSize first (seated seats log) (seated now more)
+runs_of_one recording searching IsSize seats now seat after log more was is run first begins =
+    subst (λ members. Runs recording searching 1 IsSize first (seated seats log) (seated members more)) (sym is)
+    (subst (λ members. Runs recording searching 1 IsSize first (seated members log) (seated (after ∷ []) more)) (sym was) (run first begins))
 
-pub comes_of_one : {R K G S : Type 0} (recording : Recording R K G) (searching : Searching R K G S) (seats : List (Seat S)) (seat : Seat S) (log new : List (Entry R)) → seats ≡ seat ∷ [] →
-    ((first : List (Entry R)) → Begins first log → ComesTo recording searching first (seated (seat ∷ []) log) new) →
-    (first : List (Entry R)) → Begins first log → ComesTo recording searching first (seated seats log) new
-comes_of_one recording searching seats seat log new was later first begins = subst (λ members. ComesTo recording searching first (seated members log) new) (sym was) (later first begins)
+pub comes_of_one : {R K G S : Type 0} (recording : Recording R K G) (searching : Searching R K G S) (IsSize : ℕ → ℕ → ℕ → ℕ → Type 0) (seats : List (Seat S)) (seat : Seat S) (log new : List (Entry R)) → seats ≡ seat ∷ [] →
+    ((first : List (Entry R)) → Begins first log → ComesTo recording searching IsSize first (seated (seat ∷ []) log) new) →
+    (first : List (Entry R)) → Begins first log → ComesTo recording searching IsSize first (seated seats log) new
+comes_of_one recording searching IsSize seats seat log new was later first begins = subst (λ members. ComesTo recording searching IsSize first (seated members log) new) (sym was) (later first begins)
 
 -- a turn that is put down is an event
-module _ {R K G S : Type 0} (recording : Recording R K G) (searching : Searching R K G S) (seat after : Seat S) (log new : List (Entry R)) (search : S) (units : ℕ) (facts : Facts R) (outcome : Outcome R) (dropped : Bool) where
-  pub event_put : IsFit searching (row_at seat) → seat.left ≡ false → 1 ≤ seat.held.allowed → units ≡ min seat.held.allowed 1024 →
+module _ {R K G S : Type 0} (recording : Recording R K G) (searching : Searching R K G S) (IsSize : ℕ → ℕ → ℕ → ℕ → Type 0) (seat after : Seat S) (log new : List (Entry R)) (search : S) (units : ℕ) (facts : Facts R) (outcome : Outcome R) (dropped : Bool) where
+  pub event_put : IsFit searching (row_at seat) → seat.left ≡ false → 1 ≤ seat.held.allowed → IsSize seat.held.turns seat.held.spent seat.held.allowed units → 1 ≤ units → units ≤ seat.held.allowed →
       Handed recording.model_of log (searching.group seat.held.search) seat.held.read (searching.wants seat.held.search units) facts →
       searching.turns seat.held.search units facts outcome search → searching.key search ≡ searching.key seat.held.search → (is_stopped outcome.end ≡ true → seat.looked ≡ false) →
       PutsDown recording.settles (searching.key search) log (record seat { held = record (seat.held) { search = search } }) facts.upto outcome dropped new after →
-      (begin : List (Entry R)) → Begins begin log → Event recording searching 1 even begin (seated (seat ∷ []) log) (seated (after ∷ []) new)
-  event_put fit stays allowed size handed turn key once put begin before = record {
+      (begin : List (Entry R)) → Begins begin log → Event recording searching 1 IsSize begin (seated (seat ∷ []) log) (seated (after ∷ []) new)
+  event_put fit stays allowed size from upto handed turn key once put begin before = record {
     place = 0;
     row = row_at seat;
     of_row = refl;
@@ -464,8 +464,8 @@ module _ {R K G S : Type 0} (recording : Recording R K G) (searching : Searching
     pass_upto = omega arith;
     units = units;
     is_size = size;
-    units_from = omega (arith, size, allowed);
-    units_upto = omega (arith, size);
+    units_from = from;
+    units_upto = upto;
     seen = log;
     seen_all_before = before;
     seen_is_there = begins_itself log;
@@ -480,6 +480,14 @@ module _ {R K G S : Type 0} (recording : Recording R K G) (searching : Searching
     rows = ap (λ row. row ∷ []) (put.row_is facts refl);
     once = λ stopped kept. once stopped;
   }
+
+-- a turn that found nothing spent some unit
+pub some_spent : {R K G S : Type 0} (recording : Recording R K G) (searching : Searching R K G S) (search : S) (given : ℕ) (facts : Facts R) (outcome : Outcome R) (after : S) (units : ℕ) → IsSound recording searching search given facts outcome after → outcome ≡ whole units → 1 ≤ units
+some_spent recording searching search given facts outcome after units sound is = (subst (λ o. IsSound recording searching search given facts o after) is sound).end.0
+
+pub if_some : (o : Option ℕ) → ((units : ℕ) → o ≡ Some units → 1 ≤ units) → IfSome o (λ units. 1 ≤ units)
+if_some None h = tt
+if_some (Some units) h = h units refl
 
 -- the last members of equal lists are equal
 last_same : {X : Type 0} (xs ys : List X) (x y : X) → xs ++ x ∷ [] ≡ ys ++ y ∷ [] → x ≡ y
@@ -496,11 +504,11 @@ went_on false (Stopped seen) more none = absurd (cc)
 went_on looked (Full what count) more none = absurd (cc)
 
 -- after a whole turn that was kept, a next one may follow
-module _ {R K S : Type 0} (settles : R → Option K) (key : S → K) (log new : List (Entry R)) (seat after : Seat S) (facts : Facts R) where
-  pub follows_whole : PutsDown settles (key seat.held.search) log seat facts.upto whole false new after → after.looked ≡ false → seat.held.turns < 2 ^ 64 - 1 → Follows settles (key after.held.search) new after
+module _ {R K S : Type 0} (settles : R → Option K) (key : S → K) (log new : List (Entry R)) (seat after : Seat S) (facts : Facts R) (units : ℕ) where
+  pub follows_whole : PutsDown settles (key seat.held.search) log seat facts.upto (whole units) false new after → after.looked ≡ false → seat.held.turns < 2 ^ 64 - 1 → Follows settles (key after.held.search) units new after
   follows_whole put unlooked fewer =
       let row = put.row_is facts refl in
-      let entry = entry_of {R = R} 1 (row_at seat) whole false in
+      let entry = entry_of {R = R} 1 (row_at seat) (whole units) false in
       let turn : after.held.turns ≡ min (seat.held.turns + 1) (2 ^ 64 - 1) = ap (λ (r : Row S). r.turns) row in
       let next : entry.turn + 1 ≡ after.held.turns = omega (arith, turn, fewer) in
       let number : after.held.number ≡ seat.held.number = ap (λ (r : Row S). r.number) row in
@@ -510,7 +518,7 @@ module _ {R K S : Type 0} (settles : R → Option K) (key : S → K) (log new : 
         last = entry;
         log_is = put.log_is;
         nothing = refl;
-        next_is = ap (λ n. record (next_of entry) { turn = n }) next ∙ ap (λ n. record (entry_of {R = R} 1 (row_at after) whole false) { search = n }) (sym number);
+        next_is = ap (λ n. record (next_of entry) { turn = n }) next ∙ ap (λ n. record (entry_of {R = R} 1 (row_at after) (whole units) false) { search = n }) (sym number);
         stays = ap (λ (r : Row S). r.left) row;
         goes_on = ap (λ (r : Row S). r.end) row;
         unlooked = unlooked;
@@ -521,18 +529,18 @@ module _ {R K S : Type 0} (settles : R → Option K) (key : S → K) (log new : 
             (let bad : false ≡ true = was in cc);
       }
 
-  pub follows_put : (outcome : Outcome R) (dropped : Bool) → outcome ≡ whole → dropped ≡ false → PutsDown settles (key seat.held.search) log seat facts.upto outcome dropped new after → after.looked ≡ false → seat.held.turns < 2 ^ 64 - 1 → Follows settles (key after.held.search) new after
+  pub follows_put : (outcome : Outcome R) (dropped : Bool) → outcome ≡ whole units → dropped ≡ false → PutsDown settles (key seat.held.search) log seat facts.upto outcome dropped new after → after.looked ≡ false → seat.held.turns < 2 ^ 64 - 1 → Follows settles (key after.held.search) units new after
   follows_put outcome dropped made kept put unlooked fewer =
-      follows_whole (subst (λ d. PutsDown settles (key seat.held.search) log seat facts.upto whole d new after) kept (subst (λ o. PutsDown settles (key seat.held.search) log seat facts.upto o dropped new after) made put)) unlooked fewer
+      follows_whole (subst (λ d. PutsDown settles (key seat.held.search) log seat facts.upto (whole units) d new after) kept (subst (λ o. PutsDown settles (key seat.held.search) log seat facts.upto o dropped new after) made put)) unlooked fewer
 
   -- and a next one may follow only after such a turn
-  pub put_follows : (outcome : Outcome R) (dropped : Bool) → PutsDown settles (key seat.held.search) log seat facts.upto outcome dropped new after → Follows settles (key after.held.search) new after →
-      (outcome ≡ whole) × (dropped ≡ false) × (seat.held.turns < 2 ^ 64 - 1)
+  pub put_follows : (outcome : Outcome R) (dropped : Bool) → PutsDown settles (key seat.held.search) log seat facts.upto outcome dropped new after → Follows settles (key after.held.search) units new after →
+      (outcome ≡ whole units) × (dropped ≡ false) × (seat.held.turns < 2 ^ 64 - 1)
   put_follows outcome dropped put follows =
       let row = put.row_is facts refl in
       let last = last_same log follows.before (entry_of 1 (row_at seat) outcome dropped) follows.last (sym put.log_is ∙ follows.log_is) in
       let next = ap next_of last ∙ follows.next_is in
-      let spent : outcome.spent ≡ 1024 = ap (λ (e : Entry R). e.units) next in
+      let spent : outcome.spent ≡ units = ap (λ (e : Entry R). e.units) next in
       let kept : dropped ≡ false = ap (λ (e : Entry R). e.dropped) next in
       let turn : seat.held.turns + 1 ≡ after.held.turns = ap (λ (e : Entry R). e.turn) next in
       let turns : after.held.turns ≡ min (seat.held.turns + 1) (2 ^ 64 - 1) = ap (λ (r : Row S). r.turns) row in
@@ -542,8 +550,8 @@ module _ {R K S : Type 0} (settles : R → Option K) (key : S → K) (log new : 
       (λ i. record { spent = spent i; end = more i }, kept, omega (arith, turn, turns))
 
 -- the log's last entry was kept and found nothing
-pub last_is_empty : {R K S : Type 0} (settles : R → Option K) (key : K) (log : List (Entry R)) (seat : Seat S) (follows : Follows settles key log seat) → IsLastEmpty log follows.last
-last_is_empty settles key log seat follows = record {
+pub last_is_empty : {R K S : Type 0} (settles : R → Option K) (key : K) (units : ℕ) (log : List (Entry R)) (seat : Seat S) (follows : Follows settles key units log seat) → IsLastEmpty log follows.last
+last_is_empty settles key units log seat follows = record {
   before = follows.before;
   log_is = follows.log_is;
   kept = ap (λ entry. entry.dropped) follows.next_is;
@@ -551,109 +559,108 @@ last_is_empty settles key log seat follows = record {
 }
 
 -- a whole turn of a search that may follow is put down by the entry next to the last one
-module _ {R K S : Type 0} (settles : R → Option K) (log new : List (Entry R)) (seat after : Seat S) (search : S) (upto : ℕ) where
-  pub put_next : (key was : K) → key ≡ was → (follows : Follows settles was log seat) → new ≡ log ++ next_of follows.last ∷ [] →
+module _ {R K S : Type 0} (settles : R → Option K) (log new : List (Entry R)) (seat after : Seat S) (search : S) (units upto : ℕ) where
+  pub put_next : (key was : K) → key ≡ was → (follows : Follows settles was units log seat) → new ≡ log ++ next_of follows.last ∷ [] →
       after.held ≡ (record (seat.held) {
         search = search;
-        held = seat.held.held - 1024;
-        spent = seat.held.spent + 1024;
-        allowed = seat.held.allowed - 1024;
+        held = seat.held.held - units;
+        spent = seat.held.spent + units;
+        allowed = seat.held.allowed - units;
         turns = min (seat.held.turns + 1) (2 ^ 64 - 1);
         read = upto;
         end = ends.More;
       }) → after.left ≡ false → after.looked ≡ (seat.looked || false) →
-      PutsDown settles key log (record seat { held = record (seat.held) { search = search } }) upto whole false new after
+      PutsDown settles key log (record seat { held = record (seat.held) { search = search } }) upto (whole units) false new after
   put_next key was same follows log_is held left looked =
       let with_search : Seat S = record seat { held = record (seat.held) { search = search } } in
       record {
         is_dropped = (λ bad. absurd (cc), λ settled. absurd (follows.unsettled (subst (λ k. Settled settles log k) same settled)));
         log_is = log_is ∙ ap (λ entry. log ++ entry ∷ []) follows.next_is;
         row_is = λ facts told.
-            row_is with_search after search (record facts { upto = upto }) whole false false ends.More refl refl held left looked
-            ∙ ap (λ u. row_after (row_at with_search) (record facts { upto = u }) whole false search) (sym told);
+            row_is with_search after search (record facts { upto = upto }) (whole units) false false ends.More refl refl held left looked
+            ∙ ap (λ u. row_after (row_at with_search) (record facts { upto = u }) (whole units) false search) (sym told);
         cell_is = ap (λ (h : Held S). h.cell) held;
       }
 
 -- a whole turn more
-module _ {R K S : Type 0} (settles : R → Option K) (log new : List (Entry R)) (seat : Seat S) (made : ℕ) (search after : S) (read upto : ℕ) where
-  pub put_whole : (key was : K) → key ≡ was → (follows : Follows settles was log (after_whole seat made search read)) → new ≡ log ++ next_of follows.last ∷ [] → seat.held.turns + made < 2 ^ 64 - 1 →
-      PutsDown settles key log (after_whole seat made after read) upto whole false new (after_whole seat (made + 1) after upto)
+module _ {R K S : Type 0} (settles : R → Option K) (log new : List (Entry R)) (seat : Seat S) (units used turns : ℕ) (search after : S) (read upto : ℕ) where
+  pub put_whole : (key was : K) → key ≡ was → (follows : Follows settles was units log (after_whole seat used turns search read)) → new ≡ log ++ next_of follows.last ∷ [] → turns < 2 ^ 64 - 1 →
+      PutsDown settles key log (after_whole seat used turns after read) upto (whole units) false new (after_whole seat (used + units) (turns + 1) after upto)
   put_whole key was same follows log_is fewer =
-      let held : seat.held.held - 1024 * (made + 1) ≡ seat.held.held - 1024 * made - 1024 = omega arith in
-      let spent : seat.held.spent + 1024 * (made + 1) ≡ seat.held.spent + 1024 * made + 1024 = omega arith in
-      let allowed : seat.held.allowed - 1024 * (made + 1) ≡ seat.held.allowed - 1024 * made - 1024 = omega arith in
-      let turns : seat.held.turns + (made + 1) ≡ min (seat.held.turns + made + 1) (2 ^ 64 - 1) = omega (arith, fewer) in
-      put_next settles log new (after_whole seat made search read) (after_whole seat (made + 1) after upto) after upto key was same follows log_is
-      (λ i. record (seat.held) { search = after; held = held i; spent = spent i; allowed = allowed i; turns = turns i; read = upto; end = follows.goes_on i })
+      let held : seat.held.held - (used + units) ≡ seat.held.held - used - units = omega arith in
+      let spent : seat.held.spent + (used + units) ≡ seat.held.spent + used + units = omega arith in
+      let allowed : seat.held.allowed - (used + units) ≡ seat.held.allowed - used - units = omega arith in
+      let counted : turns + 1 ≡ min (turns + 1) (2 ^ 64 - 1) = omega (arith, fewer) in
+      put_next settles log new (after_whole seat used turns search read) (after_whole seat (used + units) (turns + 1) after upto) after units upto key was same follows log_is
+      (λ i. record (seat.held) { search = after; held = held i; spent = spent i; allowed = allowed i; turns = counted i; read = upto; end = follows.goes_on i })
       follows.stays (follows.unlooked ∙ sym (ap (λ l. l || false) follows.unlooked))
 
 -- no whole turn
-pub after_none : {S : Type 0} (seat : Seat S) → after_whole seat 0 seat.held.search seat.held.read ≡ seat
+pub after_none : {S : Type 0} (seat : Seat S) → after_whole seat 0 seat.held.turns seat.held.search seat.held.read ≡ seat
 after_none seat =
-    let held : seat.held.held - 1024 * 0 ≡ seat.held.held = omega arith in
-    let spent : seat.held.spent + 1024 * 0 ≡ seat.held.spent = omega arith in
-    let allowed : seat.held.allowed - 1024 * 0 ≡ seat.held.allowed = omega arith in
-    let turns : seat.held.turns + 0 ≡ seat.held.turns = omega arith in
-    λ i. record seat { held = record (seat.held) { held = held i; spent = spent i; allowed = allowed i; turns = turns i } }
+    let held : seat.held.held - 0 ≡ seat.held.held = omega arith in
+    let spent : seat.held.spent + 0 ≡ seat.held.spent = omega arith in
+    let allowed : seat.held.allowed - 0 ≡ seat.held.allowed = omega arith in
+    λ i. record seat { held = record (seat.held) { held = held i; spent = spent i; allowed = allowed i } }
 
--- how far a search alone has come with its whole turns, of which it may make so many; they aren't counted yet
-pub record Wholly {R K G S : Type 0} (recording : Recording R K G) (searching : Searching R K G S) (start : Seat S) (begin : List (Entry R)) (seat : Seat S) (log : List (Entry R)) (made most read : ℕ) : Type 0 where
+-- how far a search alone has come with its whole turns of so many units; they aren't counted yet
+pub record Wholly {R K G S : Type 0} (recording : Recording R K G) (searching : Searching R K G S) (IsSize : ℕ → ℕ → ℕ → ℕ → Type 0) (start : Seat S) (begin : List (Entry R)) (units : ℕ) (seat : Seat S) (log : List (Entry R)) (used turns read : ℕ) : Type 0 where
   pub same : seat ≡ record start { held = record (start.held) { search = seat.held.search } }
-  pub alone : Alone recording searching start begin (after_whole start made seat.held.search read) log
-  pub follows : Follows recording.settles (searching.key seat.held.search) log (after_whole start made seat.held.search read)
-  pub upto : made ≤ most
-  pub enough : 1024 * most ≤ start.held.allowed
-  pub fewer : start.held.turns + most < 2 ^ 64
+  pub alone : Alone recording searching IsSize start begin (after_whole start used turns seat.held.search read) log
+  pub follows : Follows recording.settles (searching.key seat.held.search) units log (after_whole start used turns seat.held.search read)
+  pub within : used ≤ start.held.allowed
 
-module _ {R K G S : Type 0} (recording : Recording R K G) (searching : Searching R K G S) where
-  pub wholly_in : (seat : Seat S) (log : List (Entry R)) (most : ℕ) → IsFit searching (row_at seat) → Follows recording.settles (searching.key seat.held.search) log seat → 1024 * most ≤ seat.held.allowed → seat.held.turns + most < 2 ^ 64 →
-      Wholly recording searching seat log seat log 0 most seat.held.read
-  wholly_in seat log most fit follows enough fewer =
+module _ {R K G S : Type 0} (recording : Recording R K G) (searching : Searching R K G S) (IsSize : ℕ → ℕ → ℕ → ℕ → Type 0) where
+  pub wholly_in : (seat : Seat S) (log : List (Entry R)) (units : ℕ) → IsFit searching (row_at seat) → Follows recording.settles (searching.key seat.held.search) units log seat →
+      Wholly recording searching IsSize seat log units seat log 0 seat.held.turns seat.held.read
+  wholly_in seat log units fit follows =
       let none = after_none seat in
       record {
         same = refl;
-        alone = subst (λ here. Alone recording searching seat log here log) (sym none) (alone_in recording searching seat log fit);
-        follows = subst (λ here. Follows recording.settles (searching.key seat.held.search) log here) (sym none) follows;
-        upto = omega arith;
-        enough = enough;
-        fewer = fewer;
+        alone = subst (λ here. Alone recording searching IsSize seat log here log) (sym none) (alone_in recording searching IsSize seat log fit);
+        follows = subst (λ here. Follows recording.settles (searching.key seat.held.search) units log here) (sym none) follows;
+        within = omega arith;
       }
 
-  module _ (start : Seat S) (begin : List (Entry R)) (seat : Seat S) (log : List (Entry R)) (made most read : ℕ) (wholly : Wholly recording searching start begin seat log made most read) where
+  module _ (start : Seat S) (begin : List (Entry R)) (units : ℕ) (seat : Seat S) (log : List (Entry R)) (used turns read : ℕ) (wholly : Wholly recording searching IsSize start begin units seat log used turns read) where
     -- and they are counted
-    pub wholly_out : (counted : Seat S) → counted ≡ after_whole seat made seat.held.search read → Alone recording searching start begin counted log
-    wholly_out counted is = subst (λ here. Alone recording searching start begin here log) (sym (is ∙ ap (λ s. after_whole s made seat.held.search read) wholly.same)) wholly.alone
+    pub wholly_out : (counted : Seat S) → counted ≡ after_whole seat used turns seat.held.search read → Alone recording searching IsSize start begin counted log
+    wholly_out counted is = subst (λ here. Alone recording searching IsSize start begin here log) (sym (is ∙ ap (λ s. after_whole s used turns seat.held.search read) wholly.same)) wholly.alone
 
-    module _ (sound : Sound recording searching) (more : made < most) (search : S) (facts : Facts R) (outcome : Outcome R) (new : List (Entry R))
-        (handed : Handed recording.model_of log (searching.group seat.held.search) read (searching.wants seat.held.search 1024) facts)
-        (turn : searching.turns seat.held.search 1024 facts outcome search) (key : searching.key search ≡ searching.key seat.held.search) where
-      -- a turn with the most units, whatever it comes to
-      wholly_then : (dropped : Bool) (after : Seat S) → PutsDown recording.settles (searching.key search) log (after_whole start made search read) facts.upto outcome dropped new after → Alone recording searching start begin after new
+    -- the policy gives the next turn as many units, and the search may spend them
+    abbrev pub IsNext : Seat S → Type 0
+    IsNext here = (used + units ≤ here.held.allowed) × (turns < 2 ^ 64 - 1) × IsSize turns (here.held.spent + used) (here.held.allowed - used) units
+
+    module _ (sound : Sound recording searching) (some : 1 ≤ units) (here_next : IsNext seat) (search : S) (facts : Facts R) (outcome : Outcome R) (new : List (Entry R))
+        (handed : Handed recording.model_of log (searching.group seat.held.search) read (searching.wants seat.held.search units) facts)
+        (turn : searching.turns seat.held.search units facts outcome search) (key : searching.key search ≡ searching.key seat.held.search) where
+      next : IsNext start
+      next = subst IsNext wholly.same here_next
+
+      -- a turn with as many units, whatever it comes to
+      wholly_then : (dropped : Bool) (after : Seat S) → PutsDown recording.settles (searching.key search) log (after_whole start used turns search read) facts.upto outcome dropped new after → Alone recording searching IsSize start begin after new
       wholly_then dropped after put =
-          let here = after_whole start made seat.held.search read in
-          alone_next recording searching sound start begin here after log new
-          (event_put recording searching here after log new search 1024 facts outcome dropped wholly.alone.fit wholly.follows.stays (omega (arith, wholly.enough, more)) (omega (arith, wholly.enough, more)) handed turn key (λ stopped. wholly.follows.unlooked) put)
+          let here = after_whole start used turns seat.held.search read in
+          alone_next recording searching IsSize sound start begin here after log new
+          (event_put recording searching IsSize here after log new search units facts outcome dropped wholly.alone.fit wholly.follows.stays (omega (arith, next.0, some)) next.2 some (omega (arith, next.0)) handed turn key (λ stopped. wholly.follows.unlooked) put)
           wholly.alone
 
-      pub wholly_last : (dropped : Bool) (counted after : Seat S) → counted ≡ after_whole seat made search read →
-          PutsDown recording.settles (searching.key counted.held.search) log counted facts.upto outcome dropped new after → Alone recording searching start begin after new
+      pub wholly_last : (dropped : Bool) (counted after : Seat S) → counted ≡ after_whole seat used turns search read →
+          PutsDown recording.settles (searching.key counted.held.search) log counted facts.upto outcome dropped new after → Alone recording searching IsSize start begin after new
       wholly_last dropped counted after is put =
           wholly_then dropped after
-          (subst (λ s. PutsDown recording.settles (searching.key s.held.search) log s facts.upto outcome dropped new after) (is ∙ ap (λ s. after_whole s made search read) wholly.same) put)
+          (subst (λ s. PutsDown recording.settles (searching.key s.held.search) log s facts.upto outcome dropped new after) (is ∙ ap (λ s. after_whole s used turns search read) wholly.same) put)
 
-      pub wholly_next : outcome ≡ whole → new ≡ log ++ next_of wholly.follows.last ∷ [] → Wholly recording searching start begin (record seat { held = record (seat.held) { search = search } }) new (made + 1) most facts.upto
+      pub wholly_next : outcome ≡ whole units → new ≡ log ++ next_of wholly.follows.last ∷ [] → Wholly recording searching IsSize start begin units (record seat { held = record (seat.held) { search = search } }) new (used + units) (turns + 1) facts.upto
       wholly_next is log_is =
-          let before = after_whole start made search read in
-          let after = after_whole start (made + 1) search facts.upto in
-          let fewer : start.held.turns + made < 2 ^ 64 - 1 = omega (arith, wholly.fewer, more) in
-          let put = put_whole recording.settles log new start made seat.held.search search read facts.upto (searching.key search) (searching.key seat.held.search) key wholly.follows log_is fewer in
+          let before = after_whole start used turns search read in
+          let after = after_whole start (used + units) (turns + 1) search facts.upto in
+          let put = put_whole recording.settles log new start units used turns seat.held.search search read facts.upto (searching.key search) (searching.key seat.held.search) key wholly.follows log_is next.1 in
           record {
             same = ap (λ (s : Seat S). record s { held = record (s.held) { search = search } }) wholly.same;
             alone = wholly_then false after (subst (λ o. PutsDown recording.settles (searching.key search) log before facts.upto o false new after) (sym is) put);
-            follows = follows_whole recording.settles searching.key log new before after facts put wholly.follows.unlooked fewer;
-            upto = omega (arith, more);
-            enough = wholly.enough;
-            fewer = wholly.fewer;
+            follows = follows_whole recording.settles searching.key log new before after facts units put wholly.follows.unlooked next.1;
+            within = next.0;
           }
 
 -- what follows of a success

@@ -1,16 +1,11 @@
 -- One worker that goes round its searches.
-use Rattle.std.specs.Prelude.{◌≡◌, ℕ, ◌+◌, ◌≤◌, ◌^◌, min, Bool, true, false, List, map}
+use Rattle.std.specs.Prelude.{◌≡◌, ℕ, ◌+◌, ◌≤◌, ◌^◌, Bool, true, false, List, map}
 use Rattle.mg_core.specs.declared.entries.Entry.{Entry}
 use Rattle.mg_core.specs.Recording.{Recording}
 use Rattle.mg_turn.specs.Turn.{Searching}
 use Rattle.mg_workers.specs.declared.held.Held.{Held}
-use Rattle.mg_workers.specs.declared.turns.TheConstants.{MOST_UNITS}
 use Rattle.mg_workers.specs.Run.{Row, Running, Runs, Finished}
 use Rattle.mg_workers.specs.Rows.{EachPair}
-
--- the policy that gives each turn what it may spend, and at most the most units of a turn
-abbrev pub even : ℕ → ℕ → ℕ → ℕ → Type 0
-even turns spent allowed units = units ≡ min allowed MOST_UNITS
 
 -- a search as a run holds it, whether or not it has left and looked
 abbrev pub row_of : {S : Type 0} → Bool → Bool → Held S → Row S
@@ -39,15 +34,15 @@ pub record IsFit {R K G S : Type 0} (searching : Searching R K G S) (row : Row S
   pub in_all : row.spent + row.held ≤ 2 ^ 62
   pub openness : row.left ≡ false → 1 ≤ row.allowed → searching.is_open row.search ≡ true
 
--- a run of one worker comes from these searches and this log to the other log
-abbrev pub ComesTo : {R K G S : Type 0} → Recording R K G → Searching R K G S → List (Entry R) → Running R S → List (Entry R) → Type 0
-ComesTo {R} {K} {G} {S} recording searching begin old log =
-    (rows : List (Row S)) × Runs recording searching 1 even begin old (record { rows = rows; log = log })
+-- a run of one worker with a policy comes from these searches and this log to the other log
+abbrev pub ComesTo : {R K G S : Type 0} → Recording R K G → Searching R K G S → (ℕ → ℕ → ℕ → ℕ → Type 0) → List (Entry R) → Running R S → List (Entry R) → Type 0
+ComesTo {R} {K} {G} {S} recording searching IsSize begin old log =
+    (rows : List (Row S)) × Runs recording searching 1 IsSize begin old (record { rows = rows; log = log })
 
--- a finished run of one worker, from these searches and this log to those: each search keeps its cell
-pub record GoesRound {R K G S : Type 0} (recording : Recording R K G) (searching : Searching R K G S) (searches : List (Held S)) (log : List (Entry R)) (after : List (Held S)) (log_after : List (Entry R)) : Type 0 where
+-- a finished run of one worker with a policy, from these searches and this log to those: each search keeps its cell
+pub record GoesRound {R K G S : Type 0} (recording : Recording R K G) (searching : Searching R K G S) (IsSize : ℕ → ℕ → ℕ → ℕ → Type 0) (searches : List (Held S)) (log : List (Entry R)) (after : List (Held S)) (log_after : List (Entry R)) : Type 0 where
   pub last : Running R S
-  pub runs : Runs recording searching 1 even log (entered searches log) last
+  pub runs : Runs recording searching 1 IsSize log (entered searches log) last
   pub finished : Finished last
   pub log_is : last.log ≡ log_after
   pub rows_are : EachPair (λ (row : Row S) search. row ≡ row_of row.left row.looked search) last.rows after

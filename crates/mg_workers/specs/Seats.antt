@@ -1,5 +1,5 @@
 -- Searches while one worker goes round them.
-use Rattle.std.specs.Prelude.{◌≡◌, ℕ, ◌+◌, ◌-◌, ◌*◌, ◌↔◌, Bool, true, false, Option, List, [], ◌∷◌, ◌++◌, map, if◌then◌else◌}
+use Rattle.std.specs.Prelude.{◌≡◌, ℕ, ◌+◌, ◌-◌, ◌↔◌, Bool, true, false, Option, List, [], ◌∷◌, ◌++◌, map, if◌then◌else◌}
 use Rattle.mg_core.specs.declared.entries.Entry.{Entry}
 use Rattle.mg_core.specs.declared.entries.Facts.{Facts}
 use Rattle.mg_core.specs.Log.{Settled}
@@ -9,7 +9,6 @@ use Rattle.mg_turn.specs.declared.outcome.TurnEnd.TheVariants as ended
 use Rattle.mg_workers.specs.declared.held.Held.{Held}
 use Rattle.mg_workers.specs.declared.held.End.TheVariants.{More}
 use Rattle.mg_workers.specs.declared.seat.Seat.{Seat}
-use Rattle.mg_workers.specs.declared.turns.TheConstants.{MOST_UNITS}
 use Rattle.mg_workers.specs.Run.{Row, Running, entry_of, row_after}
 use Rattle.mg_workers.specs.Round.{row_of}
 
@@ -41,32 +40,33 @@ pub record PutsDown {R K S : Type 0} (settles : R → Option K) (key : K) (old :
   pub row_is : (facts : Facts R) → facts.upto ≡ upto → row_at after ≡ row_after (row_at seat) facts outcome dropped seat.held.search
   pub cell_is : after.held.cell ≡ seat.held.cell
 
--- the outcome of a turn that spends the most units and finds nothing
-abbrev pub whole : {R : Type 0} → Outcome R
-whole = record { spent = MOST_UNITS; end = ended.More }
+-- the outcome of a turn that spends so many units and finds nothing
+abbrev pub whole : {R : Type 0} → ℕ → Outcome R
+whole units = record { spent = units; end = ended.More }
 
--- the search goes on and hasn't looked, its key isn't settled, and a whole turn of it would put down an entry next to the
--- log's last one, which found nothing
-pub record Follows {R K S : Type 0} (settles : R → Option K) (key : K) (log : List (Entry R)) (seat : Seat S) : Type 0 where
+-- the search goes on and hasn't looked, its key isn't settled, and a turn of it that spends so many units and finds nothing
+-- would put down an entry next to the log's last one, which found nothing
+pub record Follows {R K S : Type 0} (settles : R → Option K) (key : K) (units : ℕ) (log : List (Entry R)) (seat : Seat S) : Type 0 where
   pub before : List (Entry R)
   pub last : Entry R
   pub log_is : log ≡ before ++ last ∷ []
   pub nothing : last.records ≡ []
-  pub next_is : next_of last ≡ entry_of 1 (row_at seat) whole false
+  pub next_is : next_of last ≡ entry_of 1 (row_at seat) (whole units) false
   pub stays : seat.left ≡ false
   pub goes_on : seat.held.end ≡ More
   pub unlooked : seat.looked ≡ false
   pub unsettled : Settled settles log key → ⊥
 
--- a seat after so many whole turns, with its search as it is then and the last fact that it has read
-abbrev pub after_whole : {S : Type 0} → Seat S → ℕ → S → ℕ → Seat S
-after_whole seat made search read = record seat {
+-- a seat that has spent so many units more and made so many turns in all, with its search as it is then and the last fact
+-- that it has read
+abbrev pub after_whole : {S : Type 0} → Seat S → ℕ → ℕ → S → ℕ → Seat S
+after_whole seat used turns search read = record seat {
   held = record (seat.held) {
     search = search;
-    held = seat.held.held - MOST_UNITS * made;
-    spent = seat.held.spent + MOST_UNITS * made;
-    allowed = seat.held.allowed - MOST_UNITS * made;
-    turns = seat.held.turns + made;
+    held = seat.held.held - used;
+    spent = seat.held.spent + used;
+    allowed = seat.held.allowed - used;
+    turns = turns;
     read = read;
   };
 }

@@ -1,11 +1,10 @@
 //! Searches while a worker goes round them.
-ghost use Rattle.std.specs.Prelude.{◌≡◌, ℕ, ◌+◌, ◌-◌, ◌*◌, ◌^◌, ◌≤◌, ◌<◌, ◌↔◌, ◌||◌, ◌&&◌, if◌then◌else◌, min, not, false, map, IfOk, IsTrue};
+ghost use Rattle.std.specs.Prelude.{◌≡◌, ℕ, ◌+◌, ◌-◌, ◌^◌, ◌≤◌, ◌<◌, ◌↔◌, ◌||◌, ◌&&◌, if◌then◌else◌, min, not, false, map, IfOk, IsTrue};
 ghost use Rattle.mg_workers.specs.Run.{leaves_at};
 ghost use Rattle.mg_workers.specs.Seats.{seat_of, after_whole};
 ghost use Rattle.mg_workers.specs.declared.held.End.TheVariants.{Stopped};
 
 use crate::held::{End, Held, HeldList};
-use crate::turns::MOST_UNITS;
 use mg_lists::NoMemory;
 use std::alloc::Global;
 
@@ -71,20 +70,19 @@ impl<S> Seat<S> {
         held.end = end;
     }
 
-    /// Counts so many whole turns, which have read up to this fact.
-    pub(crate) fn count_whole(&mut self, made: u64, read: u64)
-        requires allowed { MOST_UNITS * made ≤ self.old.held.allowed }
+    /// Counts so many units that were spent in whole turns, by which the search has made so many in all and has read up to
+    /// this fact.
+    pub(crate) fn count_whole(&mut self, used: u64, turns: u64, read: u64)
+        requires allowed { used ≤ self.old.held.allowed }
         requires within { self.old.held.allowed ≤ self.old.held.held }
         requires in_all { self.old.held.spent + self.old.held.held ≤ 2 ^ 62 }
-        requires turns { self.old.held.turns + made < 2 ^ 64 }
-        ensures { self.new ≡ after_whole self.old made self.old.held.search read }
+        ensures { self.new ≡ after_whole self.old used turns self.old.held.search read }
     {
-        let spent = MOST_UNITS * made;
         let held = &mut self.held;
-        held.held -= spent;
-        held.spent += spent;
-        held.allowed -= spent;
-        held.turns += made;
+        held.held -= used;
+        held.spent += used;
+        held.allowed -= used;
+        held.turns = turns;
         held.read = read;
     }
 }

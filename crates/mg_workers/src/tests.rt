@@ -5,6 +5,7 @@ ghost use Rattle.mg_workers.specs.declared.held.End.TheVariants.{Fresh};
 use super::*;
 use mg_core::{Book, Committed, EntryView, NoMemory};
 use mg_double::{Finder, Mark};
+use mg_policy::{Policy, even};
 use std::alloc::Global;
 use std::test::Fail;
 
@@ -86,7 +87,8 @@ fn run(
     let mut searches = HeldList::new(alloc);
     searches.push(finder(1, first))?;
     searches.push(finder(2, second))?;
-    go_round(alloc, book, searches)
+    let policy = Policy::new(|turn: u64, held: u64| even(turn, held));
+    go_round(alloc, book, &policy, searches)
 }
 
 /// Whether the search at the place has spent this many units, holds that many, and stands so.

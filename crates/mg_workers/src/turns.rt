@@ -1,22 +1,20 @@
 //! One turn of one search, and the entry that it puts into a book.
-ghost use Rattle.std.specs.Prelude.{◌≡◌, ℕ, ◌+◌, ◌-◌, ◌/◌, ◌≤◌, ◌<◌, ◌^◌, ◌↔◌, min, Bool, true, false, List, [], ◌∷◌, ◌++◌, length, if◌then◌else◌, Some, IsSome, IfSome, IfOk, OnOk, OnErr, IsTrue, option_copied};
+ghost use Rattle.std.specs.Prelude.{◌≡◌, ℕ, ◌+◌, ◌-◌, ◌≤◌, ◌<◌, ◌^◌, ◌↔◌, Bool, true, false, List, [], ◌∷◌, ◌++◌, length, if◌then◌else◌, Some, IsSome, IfSome, IfOk, OnOk, OnErr, IsTrue, option_copied};
 ghost use Rattle.std.specs.List.{AllByRecursion};
 ghost use Rattle.mg_core.specs.declared.entries.Entry.{Entry as EntryOf};
 ghost use Rattle.mg_core.specs.Book.{bare};
 ghost use Rattle.mg_core.specs.Log.{Settled};
 ghost use Rattle.mg_turn.specs.Turn.{IsSound, is_stopped, records_of};
-ghost use Rattle.mg_workers.specs.Round.{even, ComesTo, IsFit};
+ghost use Rattle.mg_workers.specs.Round.{ComesTo, IsFit};
 ghost use Rattle.mg_workers.specs.Run.{Begins, Event, Runs, end_after};
 ghost use Rattle.mg_workers.specs.Seats.{row_at, seated, whole, Follows, PutsDown};
 
-use crate::held::End;
+use crate::held::{End, Held};
 use crate::seat::{Seat, Turned};
 use mg_core::{Book, Committed, Entry, Facts, NoMemory, Record, Records};
+use mg_policy::Sizes;
 use mg_turn::{Outcome, Searcher, Stop, TurnEnd};
 use std::alloc::Global;
-
-/// The most units that a turn is given.
-pub const MOST_UNITS: u64 = 1_024;
 
 /// The number of the one pass.
 const PASS: u32 = 1;
@@ -194,20 +192,24 @@ fn commit<R: Record>(book: &mut Book<R>, key: &R::Key, entry: Entry<R>) -> Resul
     }
 }
 
-/// Whether a turn spent the most units and found nothing, so that its search goes on.
-fn is_whole<R>(outcome: &Outcome<R>) -> bool
-    ensures { IsTrue result ↔ (outcome.now ≡ whole) }
+/// Whether a turn spent so many units and found nothing, so that its search goes on.
+fn is_whole<R>(outcome: &Outcome<R>, units: u64) -> bool
+    ensures { IsTrue result ↔ (outcome.now ≡ whole units) }
 {
-    outcome.spent == MOST_UNITS && matches!(outcome.end, TurnEnd::More)
+    outcome.spent == units && matches!(outcome.end, TurnEnd::More)
 }
 
-/// Whether whole turns may follow a turn, of which it is told whether it was whole and dropped, whether its search has
-/// looked, and how many turns that had made before.
-fn may_follow(is_whole: bool, dropped: bool, looked: bool, turns: u64) -> bool
-    ensures { IsTrue result ↔ ((is_whole ≡ true) × (dropped ≡ false)
-        × (looked ≡ false) × (turns < 2 ^ 64 - 1)) }
+/// The units of a turn where turns like it may follow. Of the turn it is told how many units it spent, whether it found
+/// nothing and whether it was dropped; of its search whether that has looked, and how many turns it had made before.
+fn may_follow(spent: u64, is_whole: bool, dropped: bool, looked: bool, turns: u64) -> Option<u64>
+    ensures { (units : ℕ) → (result ≡ Some units) ↔ ((units ≡ spent) × (is_whole ≡ true)
+        × (dropped ≡ false) × (looked ≡ false) × (turns < 2 ^ 64 - 1)) }
 {
-    is_whole && !dropped && !looked && turns < u64::MAX
+    if is_whole && !dropped && !looked && turns < u64::MAX {
+        Some(spent)
+    } else {
+        None
+    }
 }
 
 /// Commits the entry of a turn with this outcome, which was handed the models up to this fact, counts the turn, and
@@ -249,27 +251,30 @@ fn put_down<R: Record, S: Searcher<R>>(
     Ok(dropped)
 }
 
-/// One turn of a search that goes on, whose entry is committed directly after it. True exactly where whole turns may
-/// follow: it was given the most units, spent them and found nothing, and its search goes on. Where there is no memory
-/// the book stays as it was.
-pub(crate) fn take_turn<R: Record, S: Searcher<R>>(
+/// One turn of a search that goes on, of the policy's size, whose entry is committed directly after it. Answers the
+/// units of the turn exactly where whole turns of them may follow: it found nothing, and its search goes on. Where there
+/// is no memory the book stays as it was.
+pub(crate) fn take_turn<R: Record, S: Searcher<R>, P: Sizes>(
     alloc: Global,
     book: &mut Book<R>,
+    policy: &P,
     seat: &mut Seat<S>,
-) -> Result<bool, NoMemory>
+) -> Result<Option<u64>, NoMemory>
+    requires policy { P.fit policy.now }
     requires fit { IsFit S.searching (row_at seat.old) }
     requires stays { seat.old.left ≡ false }
     requires allowed { 1 ≤ seat.old.held.allowed }
     ensures event { OnOk result ((begin : List (EntryOf R)) → Begins begin book.old →
-        Event R.recording S.searching 1 even begin
+        Event R.recording S.searching 1 (P.is_size policy.now) begin
         (seated (seat.old ∷ []) book.old) (seated (seat.new ∷ []) book.new)) }
     ensures cell { OnOk result (seat.new.held.cell ≡ seat.old.held.cell) }
-    ensures alike { IfOk result (λ alike.
-        (alike ≡ true) ↔ Follows R.recording.settles
-        (S.searching.key seat.new.held.search) book.new seat.new) }
+    ensures alike { IfOk result (λ alike. (units : ℕ) →
+        (alike ≡ Some units) ↔ Follows R.recording.settles
+        (S.searching.key seat.new.held.search) units book.new seat.new) }
+    ensures some { IfOk result (λ alike. IfSome alike (λ units. 1 ≤ units)) }
     ensures memory { OnErr result (book.new ≡ book.old) }
 {
-    let units = seat.held.allowed.min(MOST_UNITS);
+    let units = policy.size(seat.held.turns, seat.held.spent, seat.held.allowed);
     let wants = seat.held.search.wants(units);
     let facts = book.models(alloc, seat.held.search.group(), seat.held.read, wants)?;
     let upto = facts.upto;
@@ -281,57 +286,82 @@ pub(crate) fn take_turn<R: Record, S: Searcher<R>>(
         units,
         facts,
     )?;
-    let whole = is_whole(&outcome);
+    let spent = outcome.spent;
+    let whole = is_whole(&outcome, spent);
     let turns = seat.held.turns;
     let dropped = put_down(alloc, book, seat, upto, outcome)?;
-    Ok(may_follow(whole, dropped, seat.looked, turns))
+    Ok(may_follow(spent, whole, dropped, seat.looked, turns))
 }
 
-/// How many whole turns a search may make that may spend so many units and has made so many turns.
-fn most_whole(allowed: u64, turns: u64) -> u64
-    ensures value { result ≡ min (allowed / MOST_UNITS) (2 ^ 64 - 1 - turns) }
-    ensures counted { turns + result < 2 ^ 64 }
+/// Whether the policy gives so many units to the next turn of a search, which has made so many turns and spent some of its
+/// units since its account was brought up to date.
+fn is_next_size<S, P: Sizes>(
+    policy: &P,
+    search: &Held<S>,
+    units: u64,
+    used: u64,
+    turns: u64,
+) -> bool
+    requires policy { P.fit policy.now }
+    requires some { 1 ≤ units }
+    requires used { used ≤ search.now.allowed }
+    requires in_all { search.now.spent + search.now.allowed ≤ 2 ^ 62 }
+    ensures enough { result ≡ true → used + units ≤ search.now.allowed }
+    ensures counted { result ≡ true → turns < 2 ^ 64 - 1 }
+    ensures size { result ≡ true → P.is_size policy.now turns
+        (search.now.spent + used) (search.now.allowed - used) units }
 {
-    (allowed / MOST_UNITS).min(u64::MAX - turns)
+    let left = search.allowed - used;
+    if left < units || turns == u64::MAX {
+        return false;
+    }
+    policy.size(turns, search.spent + used, left) == units
 }
 
-/// Whole turns of a search, one after another, until one isn't whole or too few units are left for one. The last turn
-/// of the search stands last in the log and was whole. So the book has no verdict for its key, and the entry of each
-/// whole turn, which is committed directly after it, needs no second look. The search's account is brought up to date
-/// where it stops; where there is no memory it isn't, and the book has the entries of the turns made so far.
-pub(crate) fn take_whole_turns<R: Record, S: Searcher<R>>(
+/// Whole turns of a search of so many units each, one after another, until one isn't whole, or the policy gives other units
+/// to the next one. The last turn of the search stands last in the log, spent as many units and found nothing. So the book
+/// has no verdict for its key, and the entry of each whole turn, which is committed directly after it, needs no second
+/// look. The search's account is brought up to date where it stops; where there is no memory it isn't, and the book has the
+/// entries of the turns made so far.
+pub(crate) fn take_whole_turns<R: Record, S: Searcher<R>, P: Sizes>(
     alloc: Global,
     book: &mut Book<R>,
+    policy: &P,
     seat: &mut Seat<S>,
+    units: u64,
 ) -> Result<(), NoMemory>
+    requires policy { P.fit policy.now }
+    requires some { 1 ≤ units }
     requires fit { IsFit S.searching (row_at seat.old) }
     requires follows { Follows R.recording.settles
-        (S.searching.key seat.old.held.search) book.old seat.old }
+        (S.searching.key seat.old.held.search) units book.old seat.old }
     ensures runs { OnOk result ((begin : List (EntryOf R)) → Begins begin book.old →
-        Runs R.recording S.searching 1 even begin
+        Runs R.recording S.searching 1 (P.is_size policy.now) begin
         (seated (seat.old ∷ []) book.old) (seated (seat.new ∷ []) book.new)) }
     ensures fit { OnOk result (IsFit S.searching (row_at seat.new)) }
     ensures cell { OnOk result (seat.new.held.cell ≡ seat.old.held.cell) }
     ensures memory { OnErr result ((begin : List (EntryOf R)) → Begins begin book.old →
-        ComesTo R.recording S.searching begin (seated (seat.old ∷ []) book.old) book.new) }
+        ComesTo R.recording S.searching (P.is_size policy.now) begin
+        (seated (seat.old ∷ []) book.old) book.new) }
 {
-    let most = most_whole(seat.held.allowed, seat.held.turns);
     let mut read = seat.held.read;
-    let mut made = 0;
-    while made < most {
-        let wants = seat.held.search.wants(MOST_UNITS);
+    let mut used = 0;
+    let mut turns = seat.held.turns;
+    while is_next_size(policy, &seat.held, units, used, turns) {
+        let wants = seat.held.search.wants(units);
         let facts = book.models(alloc, seat.held.search.group(), read, wants)?;
         let upto = facts.upto;
-        let outcome = turn_told(alloc, book, &mut seat.held.search, MOST_UNITS, facts)?;
-        if !is_whole(&outcome) {
-            seat.count_whole(made, read);
+        let outcome = turn_told(alloc, book, &mut seat.held.search, units, facts)?;
+        if !is_whole(&outcome, units) {
+            seat.count_whole(used, turns, read);
             put_down(alloc, book, seat, upto, outcome)?;
             return Ok(());
         }
         book.commit_next(seat.held.search.key())?;
         read = upto;
-        made += 1;
+        used += units;
+        turns += 1;
     }
-    seat.count_whole(made, read);
+    seat.count_whole(used, turns, read);
     Ok(())
 }

@@ -6,5 +6,5 @@ use Rattle.mg_session.proofs.Printed.{line_there}
 use Rattle.mg_top.proofs.laws.open_questions_show_their_units.Goals as goal
 
 pub returns : goal.returns
-returns c script output legal state place asked block procedure before after search is_block there =
+returns c workers policy script output legal state place asked block procedure before after search is_block there =
     subst (λ (lines : List SearchLine). Contains lines (line_of search)) (sym is_block.searches) (line_there state place procedure before search after there)

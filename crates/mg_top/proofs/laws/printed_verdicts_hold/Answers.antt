@@ -3,5 +3,5 @@ use Rattle.mg_top.proofs.Answers.{ok_at}
 use Rattle.mg_top.proofs.laws.printed_verdicts_hold.Goals as goal
 
 pub returns : goal.returns
-returns c = λ script output legal ask verdict p.
-    printed_holds legal.scope.plan 1 p.state (ok_at script output legal p.place p.state p.state_there) p.step ask verdict p.printed
+returns c = λ workers policy script output legal ask verdict p.
+    printed_holds legal.scope.plan workers p.state (ok_at workers policy script output legal p.place p.state p.state_there) p.step ask verdict p.printed

@@ -8,9 +8,9 @@ use Rattle.mg_top.proofs.Answers.{ok_at}
 use Rattle.mg_top.proofs.laws.units_balance_where_printed.Goals as goal
 
 pub returns-clause-each : goal.returns-clause-each
-returns-clause-each c script output legal step state place asked block at is_block =
-    let ok = ok_at script output legal step state at in
+returns-clause-each c workers policy script output legal step state place asked block at is_block =
+    let ok = ok_at workers policy script output legal step state at in
     subst (AllByRecursion (λ (line : SearchLine). Balanced line.account)) (sym is_block.searches) (lines_balanced place state.searches (as_searches state.searches ok.ledger.balance.each))
 
 pub returns-clause-whole : goal.returns-clause-whole
-returns-clause-whole c script output legal step state at = (ok_at script output legal step state at).ledger.balance
+returns-clause-whole c workers policy script output legal step state at = (ok_at workers policy script output legal step state at).ledger.balance

@@ -7,6 +7,7 @@ abbrev pub invariant-loop-seats : goal.invariant-loop-seats
 invariant-loop-seats g l =
     Went g.R.Record.recording
     g.S.Searcher.searching
+    (g.P.Sizes.is_size l.fn.policy)
     l.fn.searches l.fn.book l.seats.items l.book
 
 abbrev pub decreases-loop-seats : goal.decreases-loop-seats

@@ -1,8 +1,9 @@
-use Rattle.std.proofs.Common.{◌≡◌, Some, subst, refl}
+use Rattle.std.proofs.Common.{◌≡◌, ◌∙◌, Some, ap, sym, subst, refl}
 use Rattle.std.specs.List.{AllByRecursion}
 use Rattle.mg_core.specs.Log.{Handed}
 use Rattle.mg_core.proofs.Hands.{handed_of_group}
-use Rattle.mg_workers.proofs.Rounds.{brings_settling, event_put, follows_put, put_follows}
+use Rattle.mg_workers.proofs.Rounds.{brings_settling, event_put, follows_put, if_some, put_follows, some_spent}
+use Rattle.mg_workers.specs.Seats.{whole}
 use Rattle.mg_workers.proofs.turns.take_turn.Goals as goal
 
 pub turn-requires-clause-of_group : goal.turn-requires-clause-of_group
@@ -21,19 +22,27 @@ returns-clause-event g c =
     let outcome = c.in_ok-outcome.outcome in
     let handed = subst (λ group. Handed g.R.Record.recording.model_of log group seat.held.read c.wants-wants.result facts) c.group.ensures c.in_ok-facts.ensures in
     let handed_wanted = subst (λ most. Handed g.R.Record.recording.model_of log (g.S.Searcher.searching.group seat.held.search) seat.held.read most facts) c.wants-wants.ensures handed in
-    event_put _ _ seat c.put_down.new.seat log c.put_down.new.book c.turn.new.search c.min-units.result facts outcome c.in_ok-dropped.dropped c.requires.fit c.requires.stays c.requires.allowed c.min-units.ensures handed_wanted
+    event_put _ _ _ seat c.put_down.new.seat log c.put_down.new.book c.turn.new.search c.size-units.result facts outcome c.in_ok-dropped.dropped c.requires.fit c.requires.stays c.requires.allowed c.size-units.ensures.size c.size-units.ensures.least c.size-units.ensures.most handed_wanted
     c.in_ok-outcome.ensures.turns c.in_ok-outcome.ensures.sound.key c.in_ok-outcome.ensures.once c.in_ok-dropped.ensures.ok
 
 pub returns-clause-alike : goal.returns-clause-alike
 returns-clause-alike g c =
     let before = record (c.args.seat.now) { held = record (c.args.seat.now.held) { search = c.turn.new.search } } in
-    let put = c.in_ok-dropped.ensures.ok in (
+    let put = c.in_ok-dropped.ensures.ok in
+    λ units. (
       λ alike.
-          let told = c.may_follow.ensures.0 alike in
-          follows_put g.R.Record.recording.settles g.S.Searcher.searching.key c.args.book.now c.put_down.new.book before c.put_down.new.seat c.in_ok-facts.facts
-          c.in_ok-outcome.outcome c.in_ok-dropped.dropped (c.is_whole-whole.ensures.0 told.0) told.1 put told.2 told.3,
+          let told = (c.may_follow.ensures units).0 alike in
+          follows_put g.R.Record.recording.settles g.S.Searcher.searching.key c.args.book.now c.put_down.new.book before c.put_down.new.seat c.in_ok-facts.facts units
+          c.in_ok-outcome.outcome c.in_ok-dropped.dropped (c.is_whole-whole.ensures.0 told.1 ∙ ap whole (sym told.0)) told.2 put told.3 told.4,
       λ follows.
-          let made = put_follows g.R.Record.recording.settles g.S.Searcher.searching.key c.args.book.now c.put_down.new.book before c.put_down.new.seat c.in_ok-facts.facts
+          let made = put_follows g.R.Record.recording.settles g.S.Searcher.searching.key c.args.book.now c.put_down.new.book before c.put_down.new.seat c.in_ok-facts.facts units
           c.in_ok-outcome.outcome c.in_ok-dropped.dropped put follows in
-          c.may_follow.ensures.1 (c.is_whole-whole.ensures.1 made.0, made.1, follows.unlooked, made.2),
+          let spent = ap (λ outcome. outcome.spent) made.0 in
+          (c.may_follow.ensures units).1 (sym spent, c.is_whole-whole.ensures.1 (made.0 ∙ ap whole (sym spent)), made.1, follows.unlooked, made.2),
     )
+
+pub returns-clause-some : goal.returns-clause-some
+returns-clause-some g c =
+    if_some c.may_follow.result (λ units alike.
+    let told = (c.may_follow.ensures units).0 alike in
+    some_spent _ _ _ _ _ _ _ units c.in_ok-outcome.ensures.sound (c.is_whole-whole.ensures.0 told.1 ∙ ap whole (sym told.0)))
