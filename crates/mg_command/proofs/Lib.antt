@@ -1,4 +1,13 @@
-mod Lists
 mod Settings
 mod Rule
 mod Told
+mod Lexed
+mod Turns
+mod RunWalk
+mod RunWords
+mod Plain
+mod RunRight
+mod Got
+mod CheckWords
+mod SampleWalk
+mod SampleWords

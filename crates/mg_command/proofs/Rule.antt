@@ -1,15 +1,15 @@
 -- Each list of words says one command, or has one cause for which it says none.
-use Rattle.std.proofs.Common.{◌≡◌, ℕ, ◌≤◌, Bool, List, [], ◌∷◌, get_or, refl, sym, ap, subst, arith, ◌∙◌, codes}
+use Rattle.std.proofs.Common.{◌≡◌, ◌⊎◌, inl, inr, ℕ, ◌≤◌, Bool, List, [], ◌∷◌, get_or, refl, sym, ap, subst, arith, ◌∙◌, codes}
 use Rattle.mg_command.specs.declared.command.Command.{Command}
 use Rattle.mg_command.specs.declared.command.Command.TheVariants.{Run, Check, Sample}
 use Rattle.mg_command.specs.declared.command.PolicyName.{PolicyName}
 use Rattle.mg_command.specs.declared.command.UsageCause.{UsageCause}
+use Rattle.mg_command.specs.declared.command.WordsRefused.{WordsRefused}
+use Rattle.mg_command.specs.declared.command.WordsRefused.TheVariants.{Usage, NoMemory}
 use Rattle.mg_command.specs.declared.command.UsageCause.TheVariants.{NoCommand, UnknownCommand, BadWords}
-use Rattle.std.specs.Prelude.{◌↔◌, Result, Ok, Err, IfOk, IfErr}
+use Rattle.std.specs.Prelude.{Result, Ok, Err, IfOk}
 use Rattle.mg_lex.specs.Number.{number_value}
-use Rattle.mg_command.specs.declared.setting.Setting.{Setting}
-use Rattle.mg_command.specs.declared.setting.Setting.TheVariants.{Workers, Policy}
-use Rattle.mg_command.specs.Words.{Begins, apart, joined, AreSettings, ComeTo, AreSample, alone, before, after, SaysRun, SaysSample, Says, IsName, is_run, is_check, is_sample, Lacks}
+use Rattle.mg_command.specs.Words.{Setting, Workers, Policy, Begins, apart, joined, AreSettings, ComeTo, AreSample, alone, before, after, SaysRun, SaysSample, Says, IsName, is_run, is_check, is_sample, Lacks}
 use Rattle.mg_command.proofs.Settings.{one_list, come_to_one}
 
 -- the names differ at their first byte
@@ -98,16 +98,26 @@ not_both (word ∷ words) c NoCommand h k = k
 not_both (word ∷ words) c UnknownCommand h k = k (says_name word words c h)
 not_both (word ∷ words) c BadWords h k = k.1 c h
 
--- what is answered of words is all that is to be said of them
-pub exact : (words : List (List ℕ)) (result : Result Command UsageCause) → IfOk result (Says words) → IfErr result (Lacks words) → ((c : Command) → result ≡ Ok c ↔ Says words c) × ((c : UsageCause) → result ≡ Err c ↔ Lacks words c)
-exact words (Ok d) says lacks = (
-  λ c. (λ e. let same : d ≡ c = cc e in subst (λ (x : Command). Says words x) same says, λ h. ap Ok (one_command words d c says h)),
-  λ c. (λ e. absurd (cc e), λ h. absurd (not_both words d c says h)),
-)
-exact words (Err d) says lacks = (
-  λ c. (λ e. absurd (cc e), λ h. absurd (not_both words c d h lacks)),
-  λ c. (λ e. let same : d ≡ c = cc e in subst (λ (x : UsageCause). Lacks words x) same lacks, λ h. ap Err (one_cause words d c lacks h)),
-)
+-- what is answered of words is all that is to be said of them, but for want of memory
+module _ (words : List (List ℕ)) (result : Result Command WordsRefused) (say : IfOk result (Says words)) (lack : (c : UsageCause) → result ≡ Err (Usage c) → Lacks words c) where
+  pub command_said : (c : Command) → result ≡ Ok c → Says words c
+  command_said c is = subst (λ (r : Result Command WordsRefused). IfOk r (Says words)) is say
+
+  pub said_answered : (c : Command) → Says words c → (result ≡ Ok c) ⊎ (result ≡ Err NoMemory)
+  said_answered c h = go result say lack
+    where
+      go : (r : Result Command WordsRefused) → IfOk r (Says words) → ((c : UsageCause) → r ≡ Err (Usage c) → Lacks words c) → (r ≡ Ok c) ⊎ (r ≡ Err NoMemory)
+      go (Ok d) says lacks = inl (ap Ok (one_command words d c says h))
+      go (Err (Usage d)) says lacks = absurd (not_both words c d h (lacks d refl))
+      go (Err NoMemory) says lacks = inr refl
+
+  pub lacking_answered : (c : UsageCause) → Lacks words c → (result ≡ Err (Usage c)) ⊎ (result ≡ Err NoMemory)
+  lacking_answered c h = go result say lack
+    where
+      go : (r : Result Command WordsRefused) → IfOk r (Says words) → ((c : UsageCause) → r ≡ Err (Usage c) → Lacks words c) → (r ≡ Err (Usage c)) ⊎ (r ≡ Err NoMemory)
+      go (Ok d) says lacks = absurd (not_both words d c says h)
+      go (Err (Usage d)) says lacks = inl (ap (λ (x : UsageCause). Err (Usage x)) (one_cause words d c (lacks d refl) h))
+      go (Err NoMemory) says lacks = inr refl
 
 value_few : (words : List (List ℕ)) (m : ℕ) (rest : List (List ℕ)) → Begins words (Workers m) rest → (1 ≤ m) × (m ≤ 64)
 value_few words m rest (apart text is e) = (is.low, is.high)

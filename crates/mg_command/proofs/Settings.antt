@@ -2,9 +2,7 @@
 use Rattle.std.proofs.Common.{◌≡◌, ℕ, List, [], ◌∷◌, ◌++◌, refl, sym, ap, subst, get_or, arith, ◌∙◌, codes}
 use Rattle.mg_command.specs.declared.command.PolicyName.{PolicyName}
 use Rattle.mg_command.specs.declared.command.PolicyName.TheVariants.{Even, Doubling}
-use Rattle.mg_command.specs.declared.setting.Setting.{Setting}
-use Rattle.mg_command.specs.declared.setting.Setting.TheVariants.{Workers, Policy}
-use Rattle.mg_command.specs.Words.{policy_text, option_text, IsValue, Begins, apart, joined, AreSettings, ComeTo, SaysRun}
+use Rattle.mg_command.specs.Words.{Setting, Workers, Policy, policy_text, option_text, IsValue, Begins, apart, joined, AreSettings, ComeTo, SaysRun}
 
 -- a name of a policy is of one policy
 one_policy : (p q : PolicyName) → policy_text p ≡ policy_text q → p ≡ q

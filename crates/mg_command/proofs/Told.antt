@@ -9,10 +9,8 @@ use Rattle.mg_command.specs.declared.command.Command.TheVariants.{Run, Check, Sa
 use Rattle.mg_command.specs.declared.command.PolicyName.{PolicyName}
 use Rattle.mg_command.specs.declared.command.PolicyName.TheVariants.{Even, Doubling}
 use Rattle.mg_command.specs.declared.command.UsageCause.TheVariants.{NoCommand, UnknownCommand, BadWords}
-use Rattle.mg_command.specs.declared.setting.Setting.{Setting}
-use Rattle.mg_command.specs.declared.setting.Setting.TheVariants.{Workers, Policy}
 use Rattle.mg_command.specs.Words as words
-use Rattle.mg_command.specs.Words.{IsNumberOf, policy_text, option_text, IsValue, Begins, AreSettings, ComeTo, SaysRun, AreSample, SaysSample, Says, IsName, is_run, is_check, is_sample, Lacks, Reads, says, lacks}
+use Rattle.mg_command.specs.Words.{Setting, Workers, Policy, IsNumberOf, policy_text, option_text, IsValue, Begins, AreSettings, ComeTo, SaysRun, AreSample, SaysSample, Says, IsName, is_run, is_check, is_sample, Lacks, Reads, says, lacks}
 use Rattle.mg_command.proofs.Settings.{differ, no_beginning, no_second, two_settings}
 use Rattle.mg_command.proofs.Rule.{no_run, no_check, no_sample, one_sample}
 

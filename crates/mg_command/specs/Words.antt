@@ -1,5 +1,5 @@
 -- What the words of the command line say.
-use Rattle.std.specs.Prelude.{◌≡◌, ℕ, ◌≤◌, ◌^◌, Bool, true, false, List, [], ◌∷◌, ◌++◌, length, map, codes}
+use Rattle.std.specs.Prelude.{◌≡◌, ℕ, ◌≤◌, ◌^◌, Bool, true, false, List, [], ◌∷◌, ◌++◌, length, map, codes, Option, MatchOption}
 use Rattle.std.specs.Borrow.{Bor}
 use Rattle.mg_lex.specs.Number.{IsNumber, number_value}
 use Rattle.mg_command.specs.declared.command.Command.{Command}
@@ -8,8 +8,6 @@ use Rattle.mg_command.specs.declared.command.PolicyName.{PolicyName}
 use Rattle.mg_command.specs.declared.command.PolicyName.TheVariants.{Even, Doubling}
 use Rattle.mg_command.specs.declared.command.UsageCause.{UsageCause}
 use Rattle.mg_command.specs.declared.command.UsageCause.TheVariants.{NoCommand, UnknownCommand, BadWords}
-use Rattle.mg_command.specs.declared.setting.Setting.{Setting}
-use Rattle.mg_command.specs.declared.setting.Setting.TheVariants.{Workers, Policy}
 
 abbrev pub texts : List (Bor (List ℕ)) → List (List ℕ)
 texts = map (λ word. word.now)
@@ -21,6 +19,11 @@ pub record IsNumberOf (digits least most : ℕ) (text : List ℕ) (n : ℕ) : Ty
   pub value : n ≡ number_value text
   pub low : least ≤ n
   pub high : n ≤ most
+
+-- one option of `run` with its value
+pub data Setting : Type 0 where
+  Workers : ℕ → Setting
+  Policy : PolicyName → Setting
 
 abbrev pub policy_text : PolicyName → List ℕ
 policy_text Even = codes "even"
@@ -93,3 +96,7 @@ Lacks (word ∷ words) BadWords = IsName word × ((c : Command) → Says (word �
 pub data Reads (words : List (List ℕ)) : Type 0 where
   says : (c : Command) → Says words c → Reads words
   lacks : (cause : UsageCause) → Lacks words cause → Reads words
+
+-- what is told of words: the command that they say, or that they say none
+abbrev pub Tells : List (List ℕ) → Option Command → Type 0
+Tells words told = MatchOption told ((c : Command) → Says words c → ⊥) (Says words)

@@ -29,3 +29,13 @@ pub enum UsageCause {
     #[error("bad words")]
     BadWords,
 }
+
+/// Why no command is answered.
+#[derive(Clone, Copy, Debug, PartialEq, Eq, Error)]
+pub enum WordsRefused {
+    /// The words are no command, for this cause.
+    #[error("{0}")]
+    Usage(UsageCause),
+    #[error("no memory")]
+    NoMemory,
+}

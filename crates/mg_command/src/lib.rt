@@ -3,13 +3,12 @@
 
 mod command;
 mod laws;
-mod number;
-mod setting;
+mod reading;
+mod values;
 mod words;
 
-pub use command::{Command, PolicyName, UsageCause};
+pub use command::{Command, PolicyName, UsageCause, WordsRefused};
 pub use laws::{each_list_says_one_thing, no_list_says_two};
-pub use setting::Setting;
 pub use words::read_words;
 
 #[cfg(test)]

@@ -1,159 +1,105 @@
 //! The words of the command line.
-ghost use Rattle.std.specs.Prelude.{◌≡◌, ◌↔◌, ◌≤◌, ℕ, Bool, List, [], ◌∷◌, codes, IfSome, IfNone, IfOk, IfErr};
-ghost use Rattle.mg_command.specs.Words.{Says, Lacks, SaysRun, AreSample, ComeTo, texts};
+ghost use Rattle.std.specs.Prelude.{◌≡◌, ◌⊎◌, ◌≤◌, ℕ, Ok, Err, Some, None, List, ◌∷◌, codes, IfOk};
+ghost use Rattle.mg_command.specs.Words.{Says, Lacks, Tells, texts};
 
-use crate::command::{Command, PolicyName, UsageCause};
-use crate::number::number_within;
-use crate::setting::{Setting, first_setting};
-
-const DEFAULT_WORKERS: u64 = 4;
-
-const MOST_NUMBER: u64 = 1 << 62;
+use crate::command::{Command, PolicyName, UsageCause, WordsRefused};
+use crate::reading::{read_check, read_run, read_sample};
+use crate::values::{policy_of, sampled_of, workers_of};
+use std::alloc::{AllocError, Global};
 
 /// The command that the words say, or the cause for which they say none.
-pub fn read_words(words: &[&str]) -> Result<Command, UsageCause>
-    ensures says { (c : Command) → result ≡ Ok c ↔ Says (texts words.now) c }
-    ensures lacks { (c : UsageCause) → result ≡ Err c ↔ Lacks (texts words.now) c }
+pub fn read_words(alloc: Global, words: &[&str]) -> Result<Command, WordsRefused>
+    ensures says { (c : Command) → result ≡ Ok c → Says (texts words.now) c }
+    ensures lacks { (c : UsageCause) →
+        result ≡ Err (WordsRefused.Usage c) → Lacks (texts words.now) c }
+    ensures said { (c : Command) → Says (texts words.now) c →
+        (result ≡ Ok c) ⊎ (result ≡ Err WordsRefused.NoMemory) }
+    ensures lacking { (c : UsageCause) → Lacks (texts words.now) c →
+        (result ≡ Err (WordsRefused.Usage c)) ⊎ (result ≡ Err WordsRefused.NoMemory) }
     ensures workers { (n : ℕ) (p : PolicyName) → result ≡ Ok (Command.Run n p) →
         (1 ≤ n) × (n ≤ 64) }
 {
-    read(words)
+    read(alloc, words)
 }
 
 /// The command and the words behind its name.
-fn read(words: &[&str]) -> Result<Command, UsageCause>
+fn read(alloc: Global, words: &[&str]) -> Result<Command, WordsRefused>
     ensures says { IfOk result (Says (texts words.now)) }
-    ensures lacks { IfErr result (Lacks (texts words.now)) }
+    ensures lacks { (c : UsageCause) →
+        result ≡ Err (WordsRefused.Usage c) → Lacks (texts words.now) c }
 {
     match words {
-        [name, rest @ ..] => command_of(name, rest),
-        [] => Err(UsageCause::NoCommand),
+        [name, rest @ ..] => command_of(alloc, name, rest),
+        [] => Err(WordsRefused::Usage(UsageCause::NoCommand)),
     }
 }
 
 /// The command of this name with these words behind it.
-fn command_of(name: &str, words: &[&str]) -> Result<Command, UsageCause>
+fn command_of(alloc: Global, name: &str, words: &[&str]) -> Result<Command, WordsRefused>
     ensures says { IfOk result (Says (name.now ∷ texts words.now)) }
-    ensures lacks { IfErr result (Lacks (name.now ∷ texts words.now)) }
+    ensures lacks { (c : UsageCause) → result ≡ Err (WordsRefused.Usage c) →
+        Lacks (name.now ∷ texts words.now) c }
 {
-    let command = if name == "run" {
-        run_of(words)
+    if name == "run" {
+        answer(run_of(alloc, words))
     } else if name == "check" {
-        check_of(words)
+        answer(check_of(alloc, words))
     } else if name == "sample" {
-        sample_of(words)
+        answer(sample_of(alloc, words))
     } else {
-        return Err(UsageCause::UnknownCommand);
-    };
-    command.ok_or(UsageCause::BadWords)
+        Err(WordsRefused::Usage(UsageCause::UnknownCommand))
+    }
+}
+
+/// What is answered where the first word is a command's name.
+fn answer(told: Result<Option<Command>, AllocError>) -> Result<Command, WordsRefused>
+    ensures says { (c : Command) → result ≡ Ok c → told ≡ Ok (Some c) }
+    ensures lacks { (c : UsageCause) → result ≡ Err (WordsRefused.Usage c) →
+        (c ≡ UsageCause.BadWords) × (told ≡ Ok None) }
+{
+    match told {
+        Ok(Some(command)) => Ok(command),
+        Ok(None) => Err(WordsRefused::Usage(UsageCause::BadWords)),
+        Err(_) => Err(WordsRefused::NoMemory),
+    }
 }
 
 /// The command that stands behind `run`.
-fn run_of(words: &[&str]) -> Option<Command>
-    ensures some { IfSome result (Says (codes "run" ∷ texts words.now)) }
-    ensures none { IfNone result ((c : Command) → Says (codes "run" ∷ texts words.now) c → ⊥) }
+fn run_of(alloc: Global, words: &[&str]) -> Result<Option<Command>, AllocError>
+    ensures { IfOk result (Tells (codes "run" ∷ texts words.now)) }
 {
-    match settings_of(words) {
-        Some((workers, policy)) => Some(Command::Run { workers, policy }),
-        None => None,
-    }
-}
-
-/// What the settings come to that the words are.
-fn settings_of(words: &[&str]) -> Option<(u64, PolicyName)>
-    ensures some { IfSome result (λ r. SaysRun (texts words.now) r.0 r.1) }
-    ensures none { IfNone result ((n : ℕ) (p : PolicyName) → SaysRun (texts words.now) n p → ⊥) }
-{
-    if words.is_empty() {
-        return Some((DEFAULT_WORKERS, PolicyName::Even));
-    }
-    let Some((first, rest)) = first_setting(words) else {
-        return None;
+    let Some(matches) = read_run(alloc, words)? else {
+        return Ok(None);
     };
-    if rest.is_empty() {
-        return Some(alone(first));
-    }
-    let Some((second, rest)) = first_setting(rest) else {
-        return None;
+    let Some(workers) = workers_of(matches.get_str("workers")) else {
+        return Ok(None);
     };
-    if rest.is_empty() {
-        together(first, second)
-    } else {
-        None
-    }
-}
-
-/// What one setting comes to.
-fn alone(setting: Setting) -> (u64, PolicyName)
-    ensures { ComeTo (setting ∷ []) result.0 result.1 }
-{
-    match setting {
-        Setting::Workers(workers) => (workers, PolicyName::Even),
-        Setting::Policy(policy) => (DEFAULT_WORKERS, policy),
-    }
-}
-
-/// What two settings come to.
-fn together(first: Setting, second: Setting) -> Option<(u64, PolicyName)>
-    ensures some { IfSome result (λ r. ComeTo (first ∷ second ∷ []) r.0 r.1) }
-    ensures none { IfNone result ((n : ℕ) (p : PolicyName) →
-        ComeTo (first ∷ second ∷ []) n p → ⊥) }
-{
-    match first {
-        Setting::Workers(workers) => match second {
-            Setting::Policy(policy) => Some((workers, policy)),
-            Setting::Workers(_) => None,
-        },
-        Setting::Policy(policy) => match second {
-            Setting::Workers(workers) => Some((workers, policy)),
-            Setting::Policy(_) => None,
-        },
-    }
+    let Some(policy) = policy_of(matches.get_str("policy")) else {
+        return Ok(None);
+    };
+    Ok(Some(Command::Run { workers, policy }))
 }
 
 /// The command that stands behind `check`.
-fn check_of(words: &[&str]) -> Option<Command>
-    ensures some { IfSome result (Says (codes "check" ∷ texts words.now)) }
-    ensures none { IfNone result ((c : Command) → Says (codes "check" ∷ texts words.now) c → ⊥) }
+fn check_of(alloc: Global, words: &[&str]) -> Result<Option<Command>, AllocError>
+    ensures { IfOk result (Tells (codes "check" ∷ texts words.now)) }
 {
-    if words.is_empty() {
-        Some(Command::Check)
-    } else {
-        None
-    }
+    let Some(_matches) = read_check(alloc, words)? else {
+        return Ok(None);
+    };
+    Ok(Some(Command::Check))
 }
 
 /// The command that stands behind `sample`.
-fn sample_of(words: &[&str]) -> Option<Command>
-    ensures some { IfSome result (Says (codes "sample" ∷ texts words.now)) }
-    ensures none { IfNone result ((c : Command) → Says (codes "sample" ∷ texts words.now) c → ⊥) }
+fn sample_of(alloc: Global, words: &[&str]) -> Result<Option<Command>, AllocError>
+    ensures { IfOk result (Tells (codes "sample" ∷ texts words.now)) }
 {
-    let Some((text, runs)) = sample_words(words) else {
-        return None;
+    let Some(matches) = read_sample(alloc, words)? else {
+        return Ok(None);
     };
-    match number_within(text.as_bytes(), 19, 0, MOST_NUMBER) {
-        Some(number) => Some(Command::Sample { number, runs }),
-        None => None,
-    }
-}
-
-/// The number's word, and whether `--run` stands beside it.
-fn sample_words<'a>(words: &'a [&'a str]) -> Option<(&'a str, bool)>
-    ensures some { IfSome result (λ r. AreSample (texts words.entry.now) r.0.now r.1) }
-    ensures none { IfNone result ((text : List ℕ) (runs : Bool) →
-        AreSample (texts words.entry.now) text runs → ⊥) }
-{
-    match words {
-        [text] => Some((text, false)),
-        [first, second] => {
-            if *first == "--run" {
-                Some((second, true))
-            } else if *second == "--run" {
-                Some((first, true))
-            } else {
-                None
-            }
-        }
-        _ => None,
-    }
+    let Some(number) = sampled_of(matches.get_str("number")) else {
+        return Ok(None);
+    };
+    let runs = matches.get_flag("run");
+    Ok(Some(Command::Sample { number, runs }))
 }

@@ -2,9 +2,9 @@
 use Rattle.mg_words.specs.declared.procedure.Procedure.{Procedure}
 use Rattle.mg_present.specs.Ask.{Inquiry}
 use Rattle.mg_present.specs.Applies.{Applies}
-use Rattle.mg_search.specs.Search.{Search, plain, completing, enumerating, reducing}
+use Rattle.mg_search.specs.Search.{Search, plain, completing, enumerating, reducing, recalling}
 use Rattle.mg_search.specs.declared.search.Kind.{Kind}
-use Rattle.mg_search.specs.declared.search.Kind.TheVariants.{Plain, Completing, Enumerating, Reducing}
+use Rattle.mg_search.specs.declared.search.Kind.TheVariants.{Plain, Completing, Enumerating, Reducing, Recalling}
 use Rattle.mg_search.specs.declared.search.StartRefused.{StartRefused}
 use Rattle.mg_search.specs.declared.search.StartRefused.TheVariants.{DoesNotApply, NoMemory}
 use Rattle.mg_plain.specs.declared.plain.StartRefused as by_plain
@@ -15,6 +15,7 @@ seen (Plain search) = plain search
 seen (Completing search) = completing search.value
 seen (Enumerating search) = enumerating search
 seen (Reducing search) = reducing search
+seen (Recalling search) = recalling search
 
 -- what a plain search is refused for
 abbrev pub of_plain : by_plain.StartRefused → StartRefused

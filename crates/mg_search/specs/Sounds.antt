@@ -15,9 +15,11 @@ use Rattle.mg_cosets.specs.Cosets.{searching as enumerating_searching}
 use Rattle.mg_cosets.specs.Sounds.{cosets_sound}
 use Rattle.mg_nielsen.specs.Turn.{searching as reducing_searching}
 use Rattle.mg_nielsen.specs.Sounds.{nielsen_sound}
+use Rattle.mg_recall.specs.Recall.{searching as reading_searching}
+use Rattle.mg_recall.specs.Sounds.{recall_sound}
 use Rattle.mg_complete.specs.Turn.{searching as completing_searching}
 use Rattle.mg_complete.specs.Sounds.{completion_sound}
-use Rattle.mg_search.specs.Search.{Search, plain, completing, enumerating, reducing, searching}
+use Rattle.mg_search.specs.Search.{Search, plain, completing, enumerating, reducing, recalling, searching}
 
 -- what an end says of a search of some kind it says of it as a search
 fits_as : {S : Type 0} (own : Searching Fact Inquiry Group S) (search : S) (whole : Search) (units : ℕ) (facts : Facts Fact) (spent : ℕ) (end : TurnEnd Fact) → searching.key whole ≡ own.key search → ((n : ℕ) → searching.wants whole n ≡ own.wants search n) → EndFits recording own search units facts spent end → EndFits recording searching whole units facts spent end
@@ -76,5 +78,17 @@ sound (reducing search) units facts outcome after opened some wanted turn =
       within = there.within;
       openness = there.openness;
       end = fits_as reducing_searching search (reducing search) units facts outcome.spent outcome.end refl (λ n. refl) there.end;
+      valid = there.valid;
+    })
+sound (recalling search) units facts outcome after opened some wanted turn =
+    let there = recall_sound search units facts outcome turn.0 opened some (record { few = wanted.few; of_group = wanted.of_group }) turn.2 in
+    subst (λ (s : Search). IsSound recording searching (recalling search) units facts outcome s) (sym turn.1) (record {
+      key = there.key;
+      group = there.group;
+      wants = there.wants;
+      spent = there.spent;
+      within = there.within;
+      openness = there.openness;
+      end = fits_as reading_searching search (recalling search) units facts outcome.spent outcome.end refl (λ n. refl) there.end;
       valid = there.valid;
     })

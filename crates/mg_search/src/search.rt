@@ -6,7 +6,7 @@ ghost use Rattle.mg_present.specs.Ask.{IsAsked};
 ghost use Rattle.mg_present.specs.Applies.{Applies};
 ghost use Rattle.mg_certs.specs.Validity.{group_of};
 ghost use Rattle.mg_complete.specs.Completion.{first_search as first_completion};
-ghost use Rattle.mg_search.specs.Search.{IsBuilt, ask_of, procedure_of, units_spent, is_open, models_wanted, SearchTurn, Opens, searching};
+ghost use Rattle.mg_search.specs.Search.{ask_of, procedure_of, units_spent, is_open, models_wanted, Reads, SearchTurn, Opens, searching};
 ghost use Rattle.mg_search.specs.Kinds.{seen, IsNotStarted};
 ghost use Rattle.mg_search.specs.Sounds.{sound};
 
@@ -17,6 +17,7 @@ use mg_cosets::Cosets;
 use mg_nielsen::Nielsen;
 use mg_plain::Plain;
 use mg_present::{Ask, Presentation, applies};
+use mg_recall::Recall;
 use mg_turn::{Outcome, Searcher, Stop};
 use mg_words::Procedure;
 use std::alloc::{AllocError, Global};
@@ -34,9 +35,11 @@ enum Kind {
     Enumerating(Cosets),
     /// Nielsen reduction.
     Reducing(Nielsen),
+    /// A search that reads models.
+    Recalling(Recall),
 }
 
-/// A search of any procedure that is built.
+/// A search of any procedure.
 #[derive(Debug, Drop)]
 pub struct Search {
     kind: Kind,
@@ -108,7 +111,6 @@ fn boxed(alloc: Global, ask: &Ask) -> Result<Box<Completion>, NoMemory>
 impl Kind {
     /// A search that has spent nothing.
     fn start(alloc: Global, procedure: Procedure, ask: &Ask) -> Result<Kind, StartRefused>
-        requires { IsBuilt procedure }
         ensures started { IfOk result (λ kind. Opens procedure ask.now (seen kind)) }
         ensures refused { IfErr result (IsNotStarted procedure ask.now) }
     {
@@ -122,7 +124,7 @@ impl Kind {
             Procedure::Rewrite => Ok(Kind::Completing(boxed(alloc, ask)?)),
             Procedure::Cosets => Ok(Kind::Enumerating(Cosets::start(alloc, ask)?)),
             Procedure::Nielsen => Ok(Kind::Reducing(Nielsen::start(alloc, ask)?)),
-            Procedure::Recall => unreachable!(),
+            Procedure::Recall => Ok(Kind::Recalling(Recall::start(alloc, ask)?)),
         }
     }
 }
@@ -131,7 +133,6 @@ impl Search {
     /// A search by the procedure that has spent nothing. DoesNotApply comes exactly where the procedure may not be
     /// used for the Ask.
     pub fn start(alloc: Global, procedure: Procedure, ask: &Ask) -> Result<Search, StartRefused>
-        requires { IsBuilt procedure }
         ensures started { IfOk result (λ search. Opens procedure ask.now search) }
         ensures refused { IfErr result (IsNotStarted procedure ask.now) }
     {
@@ -148,6 +149,7 @@ impl Search {
             Kind::Completing(_) => Procedure::Rewrite,
             Kind::Enumerating(_) => Procedure::Cosets,
             Kind::Reducing(_) => Procedure::Nielsen,
+            Kind::Recalling(_) => Procedure::Recall,
         }
     }
 
@@ -160,6 +162,20 @@ impl Search {
             Kind::Completing(search) => search.spent(),
             Kind::Enumerating(search) => search.spent(),
             Kind::Reducing(search) => search.spent(),
+            Kind::Recalling(search) => search.models_read(),
+        }
+    }
+
+    /// Whether it reads models that other searches publish.
+    pub fn reads(&self) -> bool
+        ensures { IsTrue result ↔ Reads self.now }
+    {
+        match &self.kind {
+            Kind::Plain(_) => false,
+            Kind::Completing(_) => false,
+            Kind::Enumerating(_) => false,
+            Kind::Reducing(_) => false,
+            Kind::Recalling(_) => true,
         }
     }
 }
@@ -173,6 +189,7 @@ impl Searcher<Claim> for Search {
             Kind::Completing(search) => search.key(),
             Kind::Enumerating(search) => search.key(),
             Kind::Reducing(search) => search.key(),
+            Kind::Recalling(search) => search.key(),
         }
     }
 
@@ -182,6 +199,7 @@ impl Searcher<Claim> for Search {
             Kind::Completing(search) => search.group(),
             Kind::Enumerating(search) => search.group(),
             Kind::Reducing(search) => search.group(),
+            Kind::Recalling(search) => search.group(),
         }
     }
 
@@ -191,11 +209,12 @@ impl Searcher<Claim> for Search {
             Kind::Completing(search) => search.wants(units),
             Kind::Enumerating(search) => search.wants(units),
             Kind::Reducing(search) => search.wants(units),
+            Kind::Recalling(search) => search.wants(units),
         }
     }
 
     /// One turn.
-    #[tactic(auto, using(crate::proofs::Turns::plain_turn, crate::proofs::Turns::completing_turn, crate::proofs::Turns::enumerating_turn, crate::proofs::Turns::reducing_turn))]
+    #[tactic(auto, using(crate::proofs::Turns::plain_turn, crate::proofs::Turns::completing_turn, crate::proofs::Turns::enumerating_turn, crate::proofs::Turns::reducing_turn, crate::proofs::Turns::recalling_turn))]
     fn turn<T: Stop<Claim>>(
         &mut self,
         alloc: Global,
@@ -220,6 +239,7 @@ impl Searcher<Claim> for Search {
             Kind::Completing(search) => search.turn(alloc, units, facts, stop),
             Kind::Enumerating(search) => search.turn(alloc, units, facts, stop),
             Kind::Reducing(search) => search.turn(alloc, units, facts, stop),
+            Kind::Recalling(search) => search.turn(alloc, units, facts, stop),
         }
     }
 

@@ -1,7 +1,7 @@
 //! Searches by each procedure. The derivation `r1 ;` shows that a^2 is one where a^2 is a relator, and has
 //! the number 21. In the free group of a and b the word b^-1 a is the inverse of a b times a^2.
 ghost use Rattle.std.specs.Prelude.{◌≡◌, ◌+◌, ◌^◌, ◌≤◌, None, true, [], IfSome};
-ghost use Rattle.mg_search.specs.Search.{IsBuilt, is_open, units_spent};
+ghost use Rattle.mg_search.specs.Search.{is_open, units_spent};
 
 use super::*;
 use mg_certs::Claim;
@@ -53,7 +53,6 @@ fn found(alloc: Global, search: &mut Search, units: u64) -> Option<usize>
 // A new search by the procedure.
 #[tactic(auto, using(crate::proofs::Starts::opens_open, crate::proofs::Starts::opens_unspent))]
 fn opened(alloc: Global, procedure: Procedure, ask: &Ask) -> Option<Search>
-    requires { IsBuilt procedure }
     ensures goes { IfSome result (λ search. is_open search ≡ true) }
     ensures unspent { IfSome result (λ search. units_spent search ≡ 0) }
 {
@@ -61,21 +60,16 @@ fn opened(alloc: Global, procedure: Procedure, ask: &Ask) -> Option<Search>
 }
 
 // The number of records that a new search by the procedure has found with 21 units, if it finds.
-fn found_by(alloc: Global, procedure: Procedure, ask: &Ask) -> Option<usize>
-    requires { IsBuilt procedure }
-{
+fn found_by(alloc: Global, procedure: Procedure, ask: &Ask) -> Option<usize> {
     let mut search = opened(alloc, procedure, ask)?;
     found(alloc, &mut search, 21)
 }
 
-// Whether the procedure is built and a search by it finds so many records.
+// Whether a search by the procedure finds so many records.
 fn finds(alloc: Global, procedure: Procedure, asked: &str, records: usize) -> bool {
     let Some(ask) = ask(alloc, asked) else {
         return false;
     };
-    if !is_built(procedure) {
-        return false;
-    }
     match found_by(alloc, procedure, &ask) {
         Some(count) => count == records,
         None => false,
@@ -87,14 +81,11 @@ fn is_of(search: &Search, procedure: Procedure, ask: &Ask) -> bool {
     search.procedure() == procedure && search.key() == ask && search.group() == ask.group()
 }
 
-// Whether a search by the procedure, which is built, is of its Ask and has spent nothing.
+// Whether a search by the procedure is of its Ask and has spent nothing.
 fn starts(alloc: Global, procedure: Procedure, asked: &str) -> bool {
     let Some(ask) = ask(alloc, asked) else {
         return false;
     };
-    if !is_built(procedure) {
-        return false;
-    }
     match opened(alloc, procedure, &ask) {
         Some(search) => is_of(&search, procedure, &ask) && search.spent() == 0,
         None => false,
@@ -107,6 +98,7 @@ fn searches_are_of_their_ask(rt: HostRuntime) -> Result<(), Fail> {
     assert!(rt; starts(alloc, Procedure::Derive, "1 aa | | aa"));
     assert!(rt; starts(alloc, Procedure::Cosets, "1 aa | | aa"));
     assert!(rt; starts(alloc, Procedure::Nielsen, "2 | aa ab | Ba"));
+    assert!(rt; starts(alloc, Procedure::Recall, "0 | |"));
     Ok(())
 }
 
@@ -124,14 +116,11 @@ fn act_and_residue_find_a_model_too(rt: HostRuntime) -> Result<(), Fail> {
     Ok(())
 }
 
-// Whether the procedure is built and doesn't apply where there is no generator.
+// Whether the procedure doesn't apply where there is no generator.
 fn needs_a_generator(alloc: Global, procedure: Procedure) -> bool {
     let Some(ask) = ask(alloc, "0 | |") else {
         return false;
     };
-    if !is_built(procedure) {
-        return false;
-    }
     matches!(
         Search::start(alloc, procedure, &ask),
         Err(StartRefused::DoesNotApply)
@@ -152,14 +141,11 @@ fn nielsen_finds_one_record(rt: HostRuntime) -> Result<(), Fail> {
     Ok(())
 }
 
-// Whether the procedure is built and doesn't apply where there is a relator.
+// Whether the procedure doesn't apply where there is a relator.
 fn needs_a_free_group(alloc: Global, procedure: Procedure) -> bool {
     let Some(ask) = ask(alloc, "1 aa | | a") else {
         return false;
     };
-    if !is_built(procedure) {
-        return false;
-    }
     matches!(
         Search::start(alloc, procedure, &ask),
         Err(StartRefused::DoesNotApply)
@@ -180,14 +166,32 @@ fn cosets_find_a_model_too(rt: HostRuntime) -> Result<(), Fail> {
     Ok(())
 }
 
-#[test]
-fn completion_finds_a_model_too(rt: HostRuntime) -> Result<(), Fail> {
-    assert!(rt; finds(rt.alloc(), Procedure::Rewrite, "1 aa | | a", 2));
-    Ok(())
+// Whether a search that is handed no model ends its turn idle.
+fn is_idle(alloc: Global, search: &mut Search) -> bool
+    requires is_open { is_open search.old ≡ true }
+    requires most { units_spent search.old ≡ 0 }
+{
+    match search.turn(alloc, 21, no_models(alloc), &mut Ignorant) {
+        Ok(outcome) => outcome.spent == 0 && matches!(outcome.end, TurnEnd::Idle),
+        Err(_) => false,
+    }
+}
+
+// Whether recall, with no model, wants this many for 100 units, and is idle.
+fn recalls(alloc: Global, asked: &str, wanted: u32) -> bool {
+    let Some(ask) = ask(alloc, asked) else {
+        return false;
+    };
+    match opened(alloc, Procedure::Recall, &ask) {
+        Some(mut search) => {
+            search.reads() && search.wants(100) == wanted && is_idle(alloc, &mut search)
+        }
+        None => false,
+    }
 }
 
 #[test]
-fn one_procedure_is_not_built(rt: HostRuntime) -> Result<(), Fail> {
-    assert!(rt; !is_built(Procedure::Recall));
+fn recall_wants_models(rt: HostRuntime) -> Result<(), Fail> {
+    assert!(rt; recalls(rt.alloc(), "1 aa | | a", 64));
     Ok(())
 }

@@ -1,11 +1,11 @@
 -- What an event keeps of how the searches of a run stand.
-use Rattle.std.proofs.Common.{◌≡◌, ◌≢◌, ℕ, zero, suc, ◌+◌, ◌<◌, ◌≤◌, ◌==◌, ◌↔◌, if◌then◌else◌, Bool, true, false, cond, List, [], ◌∷◌, ◌++◌, length, length-append, refl, ap, sym, ◌∙◌, subst, arith, append-nil, add-zero}
-use Rattle.std.specs.Prelude.{Some, IsSome, Contains, slice_index_or, nat_le, max, take}
+use Rattle.std.proofs.Common.{◌≡◌, ◌≢◌, ℕ, zero, suc, ◌+◌, ◌<◌, ◌≤◌, ◌==◌, ◌↔◌, Bool, true, false, cond, List, [], ◌∷◌, ◌++◌, length, length-append, refl, ap, sym, ◌∙◌, subst, arith, append-nil, add-zero}
+use Rattle.std.specs.Prelude.{Some, IsSome, Contains, slice_index_or}
 use Rattle.std.specs.List.{AllByRecursion}
 use Rattle.std.proofs.lemmas.Bool.Decides.{nat_tests}
 use Rattle.mg_core.specs.declared.entries.Entry.{Entry}
 use Rattle.mg_core.specs.declared.entries.Facts.{Facts}
-use Rattle.mg_core.specs.Log.{facts_of, Settled, KeeperOf, Handed, last_number}
+use Rattle.mg_core.specs.Log.{facts_of, Settled, KeeperOf, Handed}
 use Rattle.mg_core.proofs.Logs.{facts_of-append}
 use Rattle.mg_words.specs.declared.procedure.Procedure.{Procedure}
 use Rattle.mg_turn.specs.declared.outcome.Outcome.{Outcome}
@@ -14,7 +14,7 @@ use Rattle.mg_turn.specs.declared.outcome.TurnEnd.TheVariants.{More, Found, Clos
 use Rattle.mg_turn.specs.Turn.{IsSound, EndFits, AreModels, Settles, records_of, goes_on, is_stopped}
 use Rattle.mg_workers.specs.declared.held.End.{End}
 use Rattle.mg_workers.specs.declared.held.End.TheVariants as ends
-use Rattle.mg_workers.specs.Run.{Row, Running, Event, entry_of, row_after, end_after}
+use Rattle.mg_workers.specs.Run.{Row, Running, Begins, Event, entry_of, row_after, end_after}
 use Rattle.mg_workers.specs.Rows.{AreApart, units_of}
 use Rattle.mg_workers.proofs.Pairs.{all_at}
 use Rattle.mg_workers.proofs.Counts.{units_of-append, others_apart}
@@ -26,22 +26,20 @@ use Rattle.mg_certs.specs.Validity.{recording, key_of, group_of}
 use Rattle.mg_search.specs.Search.{Search, searching, ask_of, procedure_of, is_open, models_wanted, SearchTurn, HasPublished}
 use Rattle.mg_search.specs.Ends.{MayEnd}
 use Rattle.mg_search.specs.Sounds.{sound}
-use Rattle.mg_search.proofs.Turns.{keeps_procedure, keeps_row, turn_may_end, turn_publishes, none_wanted}
+use Rattle.mg_search.proofs.Turns.{keeps_procedure, keeps_row, turn_may_end, turn_publishes}
 use Rattle.mg_session.specs.Run.{KeepsVerdict}
 use Rattle.mg_session.specs.StateOk.{IsOpenAt, CanEnd, HasVerdict, EndsSo, StandsBeside}
 use Rattle.mg_session.proofs.Lists.{all-set}
 use Rattle.mg_session.proofs.Keepers.{Brings, IsKeeperOf, is_new, is_old, keeper_grows, keeper_back}
 use Rattle.mg_session.proofs.Settling.{settled_grows, kept_settles}
+use Rattle.mg_session.proofs.Handing.{handed_within}
+use Rattle.mg_session.proofs.Reading.{reads_grow, reads_turn}
 
 pub not_both : (b : Bool) → b ≡ true → b ≡ false → ⊥
 not_both b e f = let g : true ≡ false = sym e ∙ f in cc g
 
 contains_none : (x : Fact) → Contains [] x → ⊥
 contains_none x c = let low = c.1 in absurd (omega arith)
-
-none_taken : (n m : ℕ) (models : List (ℕ × Fact)) → (if nat_le 0 (length models) then last_number n (take 0 models) else m) ≡ n
-none_taken n m [] = refl
-none_taken n m (model ∷ models) = let none : nat_le 0 (suc (length models)) ≡ true = grind (arith, nat_tests) in ap (λ b. cond b n m) none
 
 -- a search that goes on hasn't found
 pub not_found : (search : Search) (end : End) → IsOpenAt end search → is_open search ≡ true → end ≡ ends.Found → ⊥
@@ -89,6 +87,7 @@ module _ (log : List (Entry Fact)) (entry : Entry Fact) where
     };
     published = λ kept k same. h.published kept (keeper_was (ask_of row.search) row.number kept other same (keeper_back key_of log entry (ask_of row.search) kept k)) same;
     read = read_grows row.read h.read;
+    in_order = reads_grow log entry row.search row.read h.read h.in_order;
   }
 
 -- none of these records settles an Ask
@@ -125,11 +124,6 @@ ends_as search units facts spent procedure (Closed records) may fits =
 ends_as search units facts spent procedure Idle may fits = goes (record { none = λ r ask c e. contains_none r c; found = λ e. cc e; verdict = λ v. v; openness = λ after e. e; can_end = may })
 ends_as search units facts spent procedure (Stopped seen) may fits = goes (record { none = λ r ask c e. contains_none r c; found = λ e. cc e; verdict = λ v. v; openness = λ after e. e; can_end = tt })
 ends_as search units facts spent procedure (Full what count) may fits = goes (record { none = λ r ask c e. contains_none r c; found = λ e. cc e; verdict = λ v. v; openness = λ after e. e; can_end = may })
-
--- a search that wants no models has read what it had read
-read_on : (search : Search) (units : ℕ) (log : List (Entry Fact)) (read : ℕ) (facts : Facts Fact) → Handed recording.model_of log (ask_of search).group read (models_wanted search units) facts → facts.upto ≡ read
-read_on search units log read facts handed =
-    let none = subst (λ (n : ℕ). Handed recording.model_of log (ask_of search).group read n facts) (none_wanted search units) handed in none.upto_is ∙ none_taken read (max read (length (facts_of log))) none.models
 
 either_within : (b : Bool) (x y n : ℕ) → x ≤ n → y ≤ n → cond b x y ≤ n
 either_within true x y n h g = h
@@ -226,13 +220,15 @@ module _ (log : List (Entry Fact)) (pass units : ℕ) (row : Row Search) (facts 
           | finds records e ↦ subst (HasPublished after) (sym (ap (λ (x : Entry Fact). x.records) now.0 ∙ entry_brings records e)) (turn_publishes row.search units facts outcome after records opened turn h.in_row e)
         ]
 
-    pub stands_turn : (dropped : Bool) (seen : List (Entry Fact)) → (dropped ≡ true) ↔ Settled key_of log (ask_of row.search) → Handed recording.model_of seen (ask_of row.search).group row.read (models_wanted row.search units) facts →
+    pub stands_turn : (dropped : Bool) (seen : List (Entry Fact)) → Begins seen log → (dropped ≡ true) ↔ Settled key_of log (ask_of row.search) → Handed recording.model_of seen (ask_of row.search).group row.read (models_wanted row.search units) facts →
         StandsBeside (log ++ entry dropped ∷ []) (row_after row facts outcome dropped after)
-    stands_turn dropped seen was handed =
+    stands_turn dropped seen begins was handed =
         let units_then = sound.spent in
         let agreed = h.units in
         let counted = h.counted in
         let within = h.allowed in
+        let upto : cond (is_stopped outcome.end) row.read facts.upto ≤ length (facts_of log) = either_within (is_stopped outcome.end) row.read facts.upto (length (facts_of log)) h.read
+        (handed_within recording.model_of (ask_of row.search).group seen log row.read (models_wanted row.search units) facts begins handed h.read) in
         record {
           in_row = keeps_row row.search units facts outcome after opened turn h.in_row;
           units = omega arith;
@@ -240,8 +236,8 @@ module _ (log : List (Entry Fact)) (pass units : ℕ) (row : Row Search) (facts 
           allowed = omega arith;
           end = ends_so dropped was;
           published = publishes dropped;
-          read = either_within (is_stopped outcome.end) row.read facts.upto (length (facts_of (log ++ entry dropped ∷ [])))
-              (read_grows log (entry dropped) row.read h.read) (read_grows log (entry dropped) facts.upto (subst (λ n. n ≤ length (facts_of log)) (sym (read_on row.search units seen row.read facts handed)) h.read));
+          read = read_grows log (entry dropped) (cond (is_stopped outcome.end) row.read facts.upto) upto;
+          in_order = reads_grow log (entry dropped) after (cond (is_stopped outcome.end) row.read facts.upto) upto (reads_turn log seen begins row.search row.read units facts outcome after opened turn h.in_order handed);
         }
 
 -- an event keeps how all searches of the run stand
@@ -254,5 +250,5 @@ event_stands workers IsSize begin old new event apart h =
     subst (λ (log : List (Entry Fact)). AllByRecursion (StandsBeside log) new.rows) (sym event.log)
     (subst (AllByRecursion (StandsBeside (old.log ++ entry ∷ []))) (sym event.rows)
     (all-set (StandsBeside old.log) (StandsBeside (old.log ++ entry ∷ [])) (λ (x z : Row Search). x.number ≢ z.number) old.rows event.place event.row (row_after event.row event.facts event.outcome event.dropped event.search) event.of_row
-    (stands_turn old.log event.pass event.units event.row event.facts event.outcome event.search event.openness event.turn turned row event.dropped event.seen event.is_dropped event.handed)
+    (stands_turn old.log event.pass event.units event.row event.facts event.outcome event.search event.openness event.turn turned row event.dropped event.seen event.seen_is_there event.is_dropped event.handed)
     (λ z other. stands_beside old.log entry z other) (others_apart old.rows event.place event.row apart event.of_row) h))

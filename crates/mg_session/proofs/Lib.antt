@@ -2,17 +2,20 @@ mod Lists
 pub mod Ledger
 mod Asks
 mod Settling
+mod Handing
+mod Reading
 mod Keepers
 mod Events
 mod Rounds
+mod Onward
 pub mod States
 pub mod Runs
 pub mod Reaching
+pub mod Recalls
 pub mod Printed
 pub mod Steps
 mod Refused
-mod Others
-mod Unbuilt
+mod Told
 pub mod Meanings
 mod Firsts
 mod Seen

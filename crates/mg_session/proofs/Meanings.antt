@@ -1,5 +1,5 @@
 -- Bytes have one meaning, or are refused at one place, and never both.
-use Rattle.std.proofs.Common.{◌≡◌, ℕ, List, [], ◌∷◌, ◌++◌, ◌⊎◌, inl, inr, refl, sym, subst, ◌∙◌}
+use Rattle.std.proofs.Common.{◌≡◌, ℕ, List, ◌⊎◌, inl, inr, refl, subst}
 use Rattle.mg_lex.specs.declared.refusal.Refused.{Refused}
 use Rattle.mg_script.specs.declared.script.ScriptLine.{ScriptLine}
 use Rattle.mg_script.proofs.Scripts.{one_script}
@@ -10,7 +10,7 @@ use Rattle.mg_names.specs.Resolve.{Means, IsPlanOf}
 use Rattle.mg_names.specs.Resolve as names
 use Rattle.mg_names.proofs.Lines.{all_read}
 use Rattle.mg_names.proofs.Refusals as resolving
-use Rattle.mg_session.specs.Scripts.{Resolves, IsRefused, in_reading, in_resolving, UsesOther, UseNone, IsFirstOther, Unbuilt}
+use Rattle.mg_session.specs.Scripts.{Resolves, IsRefused, in_reading, in_resolving}
 
 pub one_scope : (bytes : List ℕ) (scope other : Scope) → Resolves bytes scope → Resolves bytes other → scope ≡ other
 one_scope bytes scope other a b =
@@ -40,23 +40,3 @@ meaning_or_refusal bytes = elim (script_or_refusal bytes) [
   ]
   | inr refused ↦ inr (refused.0, in_reading refused.1)
 ]
-
--- the first line that uses another procedure is one
-first_is : (front other : List ScriptLine) (line next : ScriptLine) (back rest : List ScriptLine) → front ++ line ∷ back ≡ other ++ next ∷ rest → UseNone front → UseNone other →
-    UsesOther line.lexemes → UsesOther next.lexemes → line ≡ next
-first_is [] [] line next back rest same none none_too uses uses_too = cc same
-first_is [] (x ∷ other) line next back rest same none none_too uses uses_too =
-    let e : line ≡ x = cc same in absurd (none_too.0 (subst (λ (l : ScriptLine). UsesOther l.lexemes) e uses))
-first_is (x ∷ front) [] line next back rest same none none_too uses uses_too =
-    let e : next ≡ x = cc same in absurd (none.0 (subst (λ (l : ScriptLine). UsesOther l.lexemes) e uses_too))
-first_is (x ∷ front) (y ∷ other) line next back rest same none none_too uses uses_too =
-    first_is front other line next back rest (cc same) none.1 none_too.1 uses uses_too
-
-one_first : (script : List ScriptLine) (m n : ℕ) → IsFirstOther script m → IsFirstOther script n → m ≡ n
-one_first script m n a b =
-    let same : a.line ≡ b.line = first_is a.front b.front a.line b.line a.back b.back (sym a.split ∙ b.split) a.first b.first a.uses_other b.uses_other in
-    a.numbered ∙ (cc same ∙ sym b.numbered)
-
-pub one_unbuilt : (bytes : List ℕ) (m n : ℕ) → Unbuilt bytes m → Unbuilt bytes n → m ≡ n
-one_unbuilt bytes m n a b =
-    one_first b.resolves.script m n (subst (λ (script : List ScriptLine). IsFirstOther script m) (one_script bytes a.resolves.script b.resolves.script a.resolves.read b.resolves.read) a.first) b.first

@@ -1,5 +1,5 @@
 -- The phases of a run, search after search.
-use Rattle.std.proofs.Common.{◌≡◌, ℕ, zero, suc, ◌+◌, ◌-◌, ◌<◌, ◌≤◌, ◌↔◌, Bool, true, List, [], ◌∷◌, ◌++◌, length, map, take, drop, set, refl, ap, sym, ◌∙◌, subst, arith}
+use Rattle.std.proofs.Common.{◌≡◌, ℕ, zero, suc, ◌+◌, ◌-◌, ◌<◌, ◌≤◌, ◌↔◌, Bool, true, false, List, [], ◌∷◌, ◌++◌, length, map, take, drop, set, refl, ap, sym, ◌∙◌, subst, arith}
 use Rattle.std.specs.Prelude.{Option, Some, slice_get}
 use Rattle.std.specs.List.{AllByRecursion}
 use Rattle.std.proofs.lemmas.List.{length-set}
@@ -13,14 +13,16 @@ use Rattle.mg_names.specs.Plan.{Plan}
 use Rattle.mg_certs.specs.Claim.{Fact}
 use Rattle.mg_certs.specs.Validity.{key_of}
 use Rattle.mg_search.specs.Search.{ask_of}
-use Rattle.mg_search.proofs.Turns.{none_reads}
 use Rattle.mg_session.specs.State.{State, SearchState, accounts, ledger_of, row_taken}
-use Rattle.mg_session.specs.Run.{allow, Idles, KeepsVerdict, TakesPart, IsSettledTo, is_found, is_stopped, stays, Settle, Rounds, RunStep}
+use Rattle.mg_session.specs.Run.{allow, Idles, SomeIdles, Further, KeepsVerdict, TakesPart, IsSettledTo, is_found, is_stopped, stays, Settle, Rounds, RunStep}
 use Rattle.mg_session.specs.StateOk.{EndsSo, StandsBeside, StateOk}
 use Rattle.mg_session.specs.Built.{one_worker}
-use Rattle.mg_session.specs.At.{Replaces}
+use Rattle.mg_session.specs.At.{Replaces, Round, again, TakesIn, AreTaking}
+use Rattle.mg_session.specs.At.{Runs as Some_runs}
 use Rattle.mg_session.proofs.Ledger.{held_cons}
-use Rattle.mg_session.proofs.States.{allow_ok, rounds_ok}
+use Rattle.mg_session.proofs.States.{allow_ok, rounds_ok, further_ok}
+use Rattle.mg_session.proofs.Events.{not_both}
+use Rattle.mg_session.proofs.Onward.{allowed_of, fewer_allowed}
 use Rattle.mg_session.proofs.Firsts.{pairs_taken, pairs_more, pairs_put, map_put, map_taken, taken_whole, get_dropped}
 use Rattle.mg_session.proofs.Seen.{some_at}
 
@@ -53,14 +55,14 @@ pub allow_done : (first : State) (bound : Option ℕ) (i last : ℕ) (now : Stat
 allow_done first bound i last now over h =
     let upto = h.upto in h.now_is ∙ ap (λ xs. record first { searches = xs }) (map_taken (allow bound) first.searches i (omega arith))
 
-abbrev pub Taking : State → SearchState → Bool → Type 0
-Taking state search takes = (takes ≡ true) ↔ TakesPart state search
+abbrev pub Taking : Round → State → SearchState → Bool → Type 0
+Taking round state search takes = (takes ≡ true) ↔ TakesIn round state search
 
-pub taking_next : (state : State) (i : ℕ) (runs new : List Bool) (takes : Bool) → i < length state.searches → new ≡ runs ++ takes ∷ [] → ((x : SearchState) → slice_get state.searches i ≡ Some x → Taking state x takes) →
-    EachPair (Taking state) (take i state.searches) runs → EachPair (Taking state) (take (i + 1) state.searches) new
-taking_next state i runs new takes within new_is next h =
+pub taking_next : (round : Round) (state : State) (i : ℕ) (runs new : List Bool) (takes : Bool) → i < length state.searches → new ≡ runs ++ takes ∷ [] → ((x : SearchState) → slice_get state.searches i ≡ Some x → Taking round state x takes) →
+    EachPair (Taking round state) (take i state.searches) runs → EachPair (Taking round state) (take (i + 1) state.searches) new
+taking_next round state i runs new takes within new_is next h =
     let there = some_at state.searches i within in
-    subst (EachPair (Taking state) (take (i + 1) state.searches)) (sym new_is) (pairs_more (Taking state) state.searches runs i there.0 takes there.1 (next there.0 there.1) h)
+    subst (EachPair (Taking round state) (take (i + 1) state.searches)) (sym new_is) (pairs_more (Taking round state) state.searches runs i there.0 takes there.1 (next there.0 there.1) h)
 
 -- which settling a search undergoes is said by the log
 settled_as : (a b : State) (x y : SearchState) → b.log ≡ a.log → IsSettledTo b x y → IsSettledTo a x y
@@ -138,11 +140,6 @@ settle_done first i last now over h =
       new_is = ap (λ l. record now { log = l }) h.log ∙ ap (λ f. record now { log = first.log; funded = f }) h.funded;
     }
 
--- no search reads models
-none_idles : (state : State) (xs : List SearchState) → AllByRecursion (λ search. Idles state search → ⊥) xs
-none_idles state [] = tt
-none_idles state (x ∷ xs) = (λ idles. none_reads x.search idles.reads, none_idles state xs)
-
 ends_of : (log : List (Entry Fact)) (xs : List SearchState) → AllByRecursion (λ (x : SearchState). StandsBeside log (row_taken true x)) xs → AllByRecursion (EndsSoOf log) xs
 ends_of log xs h = all_imply (λ (x : SearchState). StandsBeside log (row_taken true x)) (EndsSoOf log) (λ x stands. stands.end) xs h
 
@@ -156,20 +153,70 @@ module _ (old allowed : State) (bound : Option ℕ) (allowed_is : allowed ≡ re
   pub can_stand : AllByRecursion (λ (x : SearchState). StandsBeside allowed.log (row_taken true x)) allowed.searches
   can_stand = allowed_ok.stand
 
-  pub can_settle : (IsSize : ℕ → ℕ → ℕ → ℕ → Type 0) (ran : State) → Rounds (one_worker IsSize) TakesPart allowed ran → AllByRecursion (λ (x : SearchState). EndsSo ran.log x.search x.number x.end) ran.searches
-  can_settle IsSize ran rounds = ends_of ran.log ran.searches (rounds_ok some.0 1 (one_worker IsSize) TakesPart allowed ran refl rounds allowed_ok).stand
+  pub ran_in_order : (IsSize : ℕ → ℕ → ℕ → ℕ → Type 0) (ran : State) → Rounds (one_worker IsSize) TakesPart allowed ran → StateOk some.0 1 ran
+  ran_in_order IsSize ran rounds = rounds_ok some.0 1 (one_worker IsSize) TakesPart allowed ran refl rounds allowed_ok
 
-  pub run_step : (IsSize : ℕ → ℕ → ℕ → ℕ → Type 0) (ran after : State) → Rounds (one_worker IsSize) TakesPart allowed ran → Settle ran after → (plan : Plan) → RunStep plan (one_worker IsSize) bound old after
-  run_step IsSize ran after rounds settle plan = record {
+  pub can_settle : (IsSize : ℕ → ℕ → ℕ → ℕ → Type 0) (ran ran_on : State) → Rounds (one_worker IsSize) TakesPart allowed ran → Further some.0 (one_worker IsSize) ran ran_on →
+      AllByRecursion (λ (x : SearchState). EndsSo ran_on.log x.search x.number x.end) ran_on.searches
+  can_settle IsSize ran ran_on rounds further = ends_of ran_on.log ran_on.searches (further_ok some.0 1 (one_worker IsSize) ran further.0 ran_on refl further.1 (ran_in_order IsSize ran rounds)).stand
+
+  pub run_step : (IsSize : ℕ → ℕ → ℕ → ℕ → Type 0) (ran ran_on after : State) → Rounds (one_worker IsSize) TakesPart allowed ran → ((plan : Plan) → Further plan (one_worker IsSize) ran ran_on) → Settle ran_on after →
+      (plan : Plan) → RunStep plan (one_worker IsSize) bound old after
+  run_step IsSize ran ran_on after rounds further settle plan = record {
     inherited = old;
     inherit = refl;
     ran = ran;
     core = record { rounds = subst (λ (s : State). Rounds (one_worker IsSize) TakesPart s ran) allowed_is rounds };
     inherited_again = ran;
     inherit_again = refl;
-    ran_on = ran;
-    further = ([], (none_idles ran ran.searches, refl));
+    ran_on = ran_on;
+    further = further plan;
     settled = after;
     settle = settle;
     sides = refl;
   }
+
+-- of further runs some are made
+pub record ReadingOn (IsSize : ℕ → ℕ → ℕ → ℕ → Type 0) (first now : State) (runs : List Bool) : Type 0 where
+  pub plan : Plan
+  pub ok : StateOk plan 1 now
+  pub taking : AreTaking again now runs
+  pub onward : (plan : Plan) (after : State) → Further plan (one_worker IsSize) now after → Further plan (one_worker IsSize) first after
+
+pub reading_begins : (IsSize : ℕ → ℕ → ℕ → ℕ → Type 0) (first : State) (runs : List Bool) → (plan : Plan) × StateOk plan 1 first → AreTaking again first runs → ReadingOn IsSize first first runs
+reading_begins IsSize first runs some taking = record { plan = some.0; ok = some.1; taking = taking; onward = λ plan after h. h }
+
+some_taken : (state : State) (xs : List SearchState) (runs : List Bool) (place : ℕ) → slice_get runs place ≡ Some true → EachPair (Taking again state) xs runs → (i : ℕ) × (x : SearchState) × (slice_get xs i ≡ Some x) × Idles state x
+some_taken state [] [] place e h = absurd (cc e)
+some_taken state [] (b ∷ runs) place e h = absurd h
+some_taken state (x ∷ xs) [] place e h = absurd h
+some_taken state (x ∷ xs) (b ∷ runs) zero e h = let takes : b ≡ true = cc e in (zero, x, refl, h.0.0 takes)
+some_taken state (x ∷ xs) (b ∷ runs) (suc place) e h = let rest = some_taken state xs runs place e h.1 in (suc rest.0, rest.1, rest.2, rest.3)
+
+pub some_idles : (state : State) (runs : List Bool) (some : Bool) → some ≡ true → Some_runs some runs → AreTaking again state runs → SomeIdles state
+some_idles state runs true e place taking =
+    let there = some_taken state state.searches runs place.0 place.1 taking in record { place = there.0; search = there.1; there = there.2; idles = there.3 }
+some_idles state runs false e place taking = absurd (cc e)
+
+none_taken : (state : State) (xs : List SearchState) (runs : List Bool) → AllByRecursion (λ (takes : Bool). takes ≡ false) runs → EachPair (Taking again state) xs runs → AllByRecursion (λ search. Idles state search → ⊥) xs
+none_taken state [] [] none h = tt
+none_taken state [] (b ∷ runs) none h = absurd h
+none_taken state (x ∷ xs) [] none h = absurd h
+none_taken state (x ∷ xs) (b ∷ runs) none h = (λ idles. not_both b (h.0.1 idles) none.0, none_taken state xs runs none.1 h.1)
+
+pub reading_next : (IsSize : ℕ → ℕ → ℕ → ℕ → Type 0) (first now next : State) (runs runs' : List Bool) (some : Bool) → ReadingOn IsSize first now runs → some ≡ true → Some_runs some runs → ((round : Round) → AreTaking round now runs → Rounds (one_worker IsSize) (TakesIn round) now next) → AreTaking again next runs' → ReadingOn IsSize first next runs'
+reading_next IsSize first now next runs runs' some h e runs_some rounds taking =
+    let round = rounds again h.taking in
+    record {
+      plan = h.plan;
+      ok = rounds_ok h.plan 1 (one_worker IsSize) Idles now next refl round h.ok;
+      taking = taking;
+      onward = λ plan after further. h.onward plan after (next ∷ further.0, (some_idles now runs some e runs_some h.taking, next, round, refl, further.1));
+    }
+
+pub fewer_next : (IsSize : ℕ → ℕ → ℕ → ℕ → Type 0) (first now next : State) (runs : List Bool) (some : Bool) → ReadingOn IsSize first now runs → some ≡ true → Some_runs some runs → ((round : Round) → AreTaking round now runs → Rounds (one_worker IsSize) (TakesIn round) now next) → allowed_of next.searches < allowed_of now.searches
+fewer_next IsSize first now next runs some h e runs_some rounds = fewer_allowed h.plan (one_worker IsSize) now next h.ok (some_idles now runs some e runs_some h.taking) (rounds again h.taking)
+
+pub reading_ends : (IsSize : ℕ → ℕ → ℕ → ℕ → Type 0) (first now : State) (runs : List Bool) (some : Bool) → ReadingOn IsSize first now runs → some ≡ false → Some_runs some runs → (plan : Plan) → Further plan (one_worker IsSize) first now
+reading_ends IsSize first now runs true h e none plan = absurd (cc e)
+reading_ends IsSize first now runs false h e none plan = h.onward plan now ([], (none_taken now now.searches runs none h.taking, refl))

@@ -13,9 +13,10 @@ use Rattle.mg_workers.proofs.Events.{event_keeps, runs_keep}
 use Rattle.mg_workers.proofs.Legality.{runs_legal}
 use Rattle.mg_certs.specs.Claim.{Fact, settled, model_of}
 use Rattle.mg_certs.specs.Validity.{recording, IsValid, key_of}
-use Rattle.mg_search.specs.Search.{Search, searching, ask_of, procedure_of, HasPublished}
+use Rattle.mg_search.specs.Search.{Search, searching, ask_of, procedure_of, HasPublished, Reads}
 use Rattle.mg_search.specs.Sounds.{sound}
 use Rattle.mg_search.proofs.Turns.{keeps_procedure}
+use Rattle.mg_search.proofs.Readers.{keeps_reading}
 use Rattle.mg_session.specs.Run.{IsRow, Rounds}
 use Rattle.mg_session.specs.State.{State, SearchState, Params, asks, row_taken, after_row}
 use Rattle.mg_session.specs.StateOk.{EndsSo, StandsBeside, HasPass, of_worker, AreNumbered}
@@ -42,6 +43,7 @@ pub record HasTurned (row : Row Search) : Type 0 where
 -- what a run makes of a row
 pub record GoesTo (first row : Row Search) : Type 0 where
   pub procedure : procedure_of row.search ≡ procedure_of first.search
+  pub reads : Reads first.search → Reads row.search
   pub turned : (row ≡ first) ⊎ HasTurned row
 
 same_turned : (x y z : Row Search) → (y ≡ x) ⊎ HasTurned y → (z ≡ y) ⊎ HasTurned z → (z ≡ x) ⊎ HasTurned z
@@ -50,10 +52,10 @@ same_turned x y z (inl e) (inl f) = inl (f ∙ e)
 same_turned x y z (inr turned) (inl f) = inr (subst HasTurned (sym f) turned)
 
 goes_then : (x y z : Row Search) → GoesTo x y → GoesTo y z → GoesTo x z
-goes_then x y z a b = record { procedure = b.procedure ∙ a.procedure; turned = same_turned x y z a.turned b.turned }
+goes_then x y z a b = record { procedure = b.procedure ∙ a.procedure; reads = λ r. b.reads (a.reads r); turned = same_turned x y z a.turned b.turned }
 
 goes_nowhere : (row : Row Search) → GoesTo row row
-goes_nowhere row = record { procedure = refl; turned = inl refl }
+goes_nowhere row = record { procedure = refl; reads = λ r. r; turned = inl refl }
 
 each_nowhere : (rows : List (Row Search)) → EachPair GoesTo rows rows
 each_nowhere [] = tt
@@ -72,6 +74,7 @@ module _ (workers : ℕ) (IsSize : ℕ → ℕ → ℕ → ℕ → Type 0) (begi
       (pairs_set GoesTo (λ x z. Unit {0}) old.rows event.place event.row (row_after event.row event.facts event.outcome event.dropped event.search) event.of_row
       (record {
         procedure = keeps_procedure event.row.search event.units event.facts event.outcome event.search event.turn;
+        reads = λ r. keeps_reading event.row.search event.units event.facts event.outcome event.search event.turn r;
         turned = inr (record { dropped = event.dropped; last = event.outcome.end; end = refl; left = refl });
       })
       (λ z _. goes_nowhere z) (others_all (λ (z : Row Search). Unit {0}) old.rows event.place event.row (all_there old.rows)))
@@ -107,7 +110,7 @@ module _ (workers : ℕ) (IsSize : ℕ → ℕ → ℕ → ℕ → Type 0) (begi
 
 -- a search as a run takes it stands as it did
 pub as_row : (log : List (Entry Fact)) (x : SearchState) (left left' : Bool) → StandsBeside log (row_taken left x) → StandsBeside log (row_taken left' x)
-as_row log x left left' h = record { in_row = h.in_row; units = h.units; counted = h.counted; allowed = h.allowed; end = h.end; published = h.published; read = h.read }
+as_row log x left left' h = record { in_row = h.in_row; units = h.units; counted = h.counted; allowed = h.allowed; end = h.end; published = h.published; read = h.read; in_order = h.in_order }
 
 -- a search as a run leaves it stands as its row does
 pub row_back : (log : List (Entry Fact)) (x : SearchState) (last : Row Search) → last.number ≡ x.number → StandsBeside log last → StandsBeside log (row_taken true (after_row x last))
@@ -119,6 +122,7 @@ row_back log x last same h = record {
   end = subst (λ n. EndsSo log last.search n last.end) same h.end;
   published = subst (λ n. (entry : Entry Fact) → KeeperOf key_of log (ask_of last.search) entry → entry.search ≡ n → HasPublished last.search entry.records) same h.published;
   read = h.read;
+  in_order = h.in_order;
 }
 
 -- how a row began, and where it ended

@@ -1,5 +1,5 @@
 -- What a run of a session does to its searches.
-use Rattle.std.proofs.Common.{◌≡◌, ℕ, ◌+◌, ◌≤◌, ◌⊎◌, Bool, true, false, List, [], ◌∷◌, map, refl, ap, sym, ◌∙◌, subst, arith, inl, inr}
+use Rattle.std.proofs.Common.{◌≡◌, ℕ, ◌+◌, ◌≤◌, ◌⊎◌, Bool, true, false, List, [], ◌∷◌, ◌++◌, append_assoc, map, refl, ap, sym, ◌∙◌, subst, arith, inl, inr}
 use Rattle.std.specs.Prelude.{Option, Some, None}
 use Rattle.std.specs.List.{AllByRecursion}
 use Rattle.std.proofs.lemmas.Bool.{cases_lt}
@@ -16,26 +16,27 @@ use Rattle.mg_workers.proofs.Events.{runs_begins}
 use Rattle.mg_names.specs.Plan.{Plan}
 use Rattle.mg_certs.specs.Claim.{Fact}
 use Rattle.mg_certs.specs.Validity.{recording, key_of}
-use Rattle.mg_search.specs.Search.{Search, searching, ask_of, procedure_of}
-use Rattle.mg_search.proofs.Turns.{none_reads}
+use Rattle.mg_search.specs.Search.{Search, searching, ask_of, procedure_of, Reads}
 use Rattle.mg_session.specs.State.{State, SearchState, Params, row_taken, after_row}
-use Rattle.mg_session.specs.Run.{after_rows, within_bound, allow, CanGoOn, TakesPart, Core, FurtherBy, IsSettledTo, is_found, is_stopped, stays, Settle, RunStep}
+use Rattle.mg_session.specs.Run.{after_rows, within_bound, allow, CanGoOn, TakesPart, Core, Idles, Rounds, FurtherBy, IsSettledTo, is_found, is_stopped, stays, Settle, RunStep}
 use Rattle.mg_session.specs.StateOk.{HasVerdict, StandsBeside, StateOk}
 use Rattle.mg_session.specs.RunOk.{reach, LeavesUnits, is_settled, is_open, IsRunTo, RunOk}
 use Rattle.mg_session.proofs.Settling.{settled_grows}
 use Rattle.mg_session.proofs.Events.{not_both}
 use Rattle.mg_session.proofs.Rounds.{HasTurned, RanTo, rounds_run}
-use Rattle.mg_session.proofs.States.{allow_ok}
+use Rattle.mg_session.proofs.States.{allow_ok, rounds_ok, ran_ok}
 
 -- where the rounds of a run leave a search
 pub record CoreTo (bound : Option ℕ) (log : List (Entry Fact)) (x y : SearchState) : Type 0 where
   pub question : y.question ≡ x.question
   pub number : y.number ≡ x.number
   pub procedure : procedure_of y.search ≡ procedure_of x.search
+  pub reads : Reads x.search → Reads y.search
   pub ask : ask_of y.search ≡ ask_of x.search
   pub granted : y.account.granted ≡ x.account.granted
   pub rises : x.account.spent ≤ y.account.spent
-  pub within : y.account.spent ≤ reach bound x
+  pub reached : y.account.spent + y.allowed ≡ reach bound x
+  pub funded : y.allowed ≤ y.account.held
   pub total : y.account.held + y.account.spent ≡ x.account.held + x.account.spent
   pub ends : (Settled key_of log (ask_of x.search) → ⊥) → (y.account.spent ≡ reach bound x) ⊎ LeavesUnits y.end
 
@@ -131,10 +132,12 @@ module _ (bound : Option ℕ) (state : State) (log : List (Entry Fact)) (x : Sea
         question = refl;
         number = refl;
         procedure = ran.goes.procedure ∙ ap (λ (r : Row Search). procedure_of r.search) first_is;
+        reads = λ h. ran.goes.reads (subst (λ (r : Row Search). Reads r.search) (sym first_is) h);
         ask = last_ask;
         granted = refl;
         rises = omega (arith, first_spent);
-        within = omega (arith, spent_and_allowed);
+        reached = spent_and_allowed;
+        funded = ran.keeps.within;
         total = omega (arith, first_spent, first_held);
         ends = either ran.first.left refl stands finished begins;
       }
@@ -147,6 +150,77 @@ all_core_to bound state log (x ∷ xs) [] ran stands finished begins = absurd ra
 all_core_to bound state log (x ∷ xs) (last ∷ lasts) ran stands finished begins =
     (core_to bound state log x last ran.0 stands.0 finished.0 begins, all_core_to bound state log xs lasts ran.1 stands.1 finished.1 begins)
 
+-- a search that sits out a further run, or reads on in it
+module _ (bound : Option ℕ) (state : State) (log : List (Entry Fact)) (x y : SearchState) (core : CoreTo bound state.log x y) (last : Row Search) (ran : RanTo (Idles state) y last) where
+  was_first : ran.first ≡ row_taken ran.first.left y
+  was_first = ran.is_row.row_is
+
+  was_spent : ran.first.spent ≡ y.account.spent
+  was_spent = ap (λ (r : Row Search). r.spent) was_first
+
+  was_held : ran.first.held ≡ y.account.held
+  was_held = ap (λ (r : Row Search). r.held) was_first
+
+  was_allowed : ran.first.allowed ≡ y.allowed
+  was_allowed = ap (λ (r : Row Search). r.allowed) was_first
+
+  reached_on : last.spent + last.allowed ≡ reach bound x
+  reached_on =
+      let balance = ran.keeps.balance in
+      let kept_back = ran.keeps.kept_back in
+      let within = ran.keeps.within in
+      let reached = core.reached in
+      let funded = core.funded in omega (arith, was_spent, was_held, was_allowed)
+
+  same_ask : ask_of last.search ≡ ask_of x.search
+  same_ask = ran.keeps.key ∙ ap (λ (r : Row Search). ask_of r.search) was_first ∙ core.ask
+
+  ends_on : (left : Bool) → ran.first.left ≡ left → StandsBeside log last → (last.left ≡ true) ⊎ (last.allowed ≡ 0) → Begins state.log log → (Settled key_of log (ask_of x.search) → ⊥) → (last.spent ≡ reach bound x) ⊎ LeavesUnits last.end
+  ends_on true out stands finished begins unsettled =
+      let same : last ≡ ran.first = ran.keeps.stays_left out in
+      let spent : last.spent ≡ y.account.spent = ap (λ (r : Row Search). r.spent) same ∙ was_spent in
+      let end : last.end ≡ y.end = ap (λ (r : Row Search). r.end) same ∙ ap (λ (r : Row Search). r.end) was_first in
+      elim (core.ends (λ s. unsettled (subst (λ (l : List (Entry Fact)). Settled key_of l (ask_of x.search)) (sym begins.1) (settled_grows key_of state.log begins.0 (ask_of x.search) s)))) [ inl all ↦ inl (spent ∙ all) | inr over ↦ inr (subst LeavesUnits (sym end) over) ]
+  ends_on false took stands (inr none) begins unsettled = inl (let reached = reached_on in omega arith)
+  ends_on false took stands (inl left) begins unsettled =
+      elim ran.goes.turned [
+        | inl same ↦ absurd (not_both ran.first.left (ap (λ (r : Row Search). r.left) (sym same) ∙ left) took)
+        | inr turned ↦ elim (left_by turned.dropped turned.last (ap leaves_at (sym turned.end) ∙ (sym turned.left ∙ left))) [
+          | inl verdict ↦ absurd (unsettled (subst (Settled key_of log) same_ask (stands.end.verdict (subst HasVerdict (sym turned.end) verdict))))
+          | inr over ↦ inr (subst LeavesUnits (sym turned.end) over)
+        ]
+      ]
+
+  pub further_to : StandsBeside log last → (last.left ≡ true) ⊎ (last.allowed ≡ 0) → Begins state.log log → CoreTo bound log x (after_row y last)
+  further_to stands finished begins =
+      let balance = ran.keeps.balance in
+      let rises = ran.keeps.rises in
+      let total = core.total in
+      let rose = core.rises in
+      record {
+        question = core.question;
+        number = core.number;
+        procedure = ran.goes.procedure ∙ ap (λ (r : Row Search). procedure_of r.search) was_first ∙ core.procedure;
+        reads = λ h. ran.goes.reads (subst (λ (r : Row Search). Reads r.search) (sym was_first) (core.reads h));
+        ask = same_ask;
+        granted = core.granted;
+        rises = omega (arith, was_spent);
+        reached = reached_on;
+        funded = ran.keeps.within;
+        total = omega (arith, was_spent, was_held);
+        ends = ends_on ran.first.left refl stands finished begins;
+      }
+
+all_further_to : (bound : Option ℕ) (state : State) (log : List (Entry Fact)) (xs ys : List SearchState) (lasts : List (Row Search)) → EachPair (CoreTo bound state.log) xs ys → EachPair (RanTo (Idles state)) ys lasts → AllByRecursion (StandsBeside log) lasts →
+    AllByRecursion (λ (row : Row Search). (row.left ≡ true) ⊎ (row.allowed ≡ 0)) lasts → Begins state.log log → EachPair (CoreTo bound log) xs (after_rows ys lasts)
+all_further_to bound state log [] [] [] core ran stands finished begins = tt
+all_further_to bound state log [] [] (last ∷ lasts) core ran stands finished begins = absurd ran
+all_further_to bound state log [] (y ∷ ys) lasts core ran stands finished begins = absurd core
+all_further_to bound state log (x ∷ xs) [] lasts core ran stands finished begins = absurd core
+all_further_to bound state log (x ∷ xs) (y ∷ ys) [] core ran stands finished begins = absurd ran
+all_further_to bound state log (x ∷ xs) (y ∷ ys) (last ∷ lasts) core ran stands finished begins =
+    (further_to bound state log x y core.0 last ran.0 stands.0 finished.0 begins, all_further_to bound state log xs ys lasts core.1 ran.1 stands.1 finished.1 begins)
+
 -- settling
 settled_to : (bound : Option ℕ) (state : State) (x y z : SearchState) → CoreTo bound state.log x y → IsSettledTo state y z → IsRunTo bound state.log x z
 settled_to bound state x y z h (is_found s k e) =
@@ -157,7 +231,7 @@ settled_to bound state x y z h (is_found s k e) =
       ask = h.ask;
       granted = h.granted;
       rises = h.rises;
-      within = h.within;
+      within = let reached = h.reached in omega arith;
       ends = is_settled (subst (Settled key_of state.log) h.ask s) refl;
     })
 settled_to bound state x y z h (is_stopped s k e) =
@@ -168,7 +242,7 @@ settled_to bound state x y z h (is_stopped s k e) =
       ask = h.ask;
       granted = h.granted;
       rises = h.rises;
-      within = h.within;
+      within = let reached = h.reached in omega arith;
       ends = is_settled (subst (Settled key_of state.log) h.ask s) refl;
     })
 settled_to bound state x y z h (stays unsettled e) =
@@ -180,16 +254,14 @@ settled_to bound state x y z h (stays unsettled e) =
       ask = h.ask;
       granted = h.granted;
       rises = h.rises;
-      within = h.within;
+      within = let reached = h.reached in omega arith;
       ends = is_open unsettled_too h.total (h.ends unsettled_too);
     })
 
-module _ (plan : Plan) where
-  -- no search reads models yet, so none is run again
-  no_further : (params : Params) (old : State) (states : List State) (new : State) → FurtherBy plan params old states new → new ≡ old
-  no_further params old [] new h = h.1
-  no_further params old (next ∷ states) new h = absurd (none_reads h.0.search.search h.0.idles.reads)
+begins_then : (a b c : List (Entry Fact)) → Begins a b → Begins b c → Begins a c
+begins_then a b c h g = (h.0 ++ g.0, g.1 ∙ ap (λ l. l ++ g.0) h.1 ∙ append_assoc a h.0 g.0)
 
+module _ (plan : Plan) where
   -- the rounds of a run
   pub record CoreOk (bound : Option ℕ) (old new : State) : Type 0 where
     pub log : Begins old.log new.log
@@ -211,6 +283,23 @@ module _ (plan : Plan) where
       } in
       subst (CoreOk bound old) (sym rounds.new_is) ran
 
+  -- further runs are rounds of the same run
+  further_ok : (params : Params) (bound : Option ℕ) (first old : State) (states : List State) (new : State) → FurtherBy plan params old states new → StateOk plan params.workers old → CoreOk bound first old → CoreOk bound first new
+  further_ok params bound first old [] new h ok core = subst (CoreOk bound first) (sym h.1) core
+  further_ok params bound first old (next ∷ states) new h ok core =
+      let mid = h.1 in
+      let rounds : Rounds params Idles old mid = h.2 in
+      let run = rounds_run params Idles old mid rounds (record { numbered = ok.numbered; stand = ok.stand; legal = ok.legal; passes = ok.passes }) in
+      let grows = runs_begins recording searching params.workers params.IsSize old.log rounds.first rounds.last rounds.runs in
+      let begins : Begins old.log rounds.last.log = subst (λ (l : List (Entry Fact)). Begins l rounds.last.log) rounds.log grows in
+      let ran : CoreOk bound first (record old { searches = after_rows old.searches rounds.last.rows; log = rounds.last.log }) = record {
+        log = begins_then first.log old.log rounds.last.log core.log begins;
+        funded = core.funded;
+        searches = all_further_to bound old rounds.last.log first.searches old.searches rounds.last.rows core.searches run.ran run.stand rounds.finished begins;
+      } in
+      let after : CoreOk bound first next = subst (CoreOk bound first) (sym h.3) (subst (CoreOk bound first) (sym rounds.new_is) ran) in
+      further_ok params bound first next states new h.4 (subst (StateOk plan params.workers) (sym h.3) (rounds_ok plan params.workers params Idles old mid refl rounds ok)) after
+
   settle_ok : (bound : Option ℕ) (old mid new : State) → CoreOk bound old mid → Settle mid new → RunOk bound old new
   settle_ok bound old mid new h settle =
       let after : RunOk bound old (record mid { purse = new.purse; searches = new.searches }) = record {
@@ -220,12 +309,16 @@ module _ (plan : Plan) where
       } in
       subst (RunOk bound old) (sym settle.new_is) after
 
-  -- every run is in order
-  pub run_is_ok : (params : Params) (bound : Option ℕ) (old new : State) → RunStep plan params bound old new → StateOk plan params.workers old → RunOk bound old new
-  run_is_ok params bound old new step ok =
+  -- what the rounds and the further runs of a run make of its searches
+  pub run_comes : (params : Params) (bound : Option ℕ) (old new : State) (step : RunStep plan params bound old new) → StateOk plan params.workers old → CoreOk bound old step.ran_on
+  run_comes params bound old new step ok =
       let inherited = subst (StateOk plan params.workers) (sym step.inherit) ok in
       let ran = core_ok params bound step.inherited step.ran step.core inherited in
       let from_old : CoreOk bound old step.ran = subst (λ (s : State). CoreOk bound s step.ran) step.inherit ran in
-      let same : step.ran_on ≡ step.ran = no_further params step.inherited_again step.further.0 step.ran_on step.further.1 ∙ step.inherit_again in
-      let ran_on : CoreOk bound old step.ran_on = subst (CoreOk bound old) (sym same) from_old in
-      subst (RunOk bound old) (sym step.sides) (settle_ok bound old step.ran_on step.settled ran_on step.settle)
+      let again_ok = subst (StateOk plan params.workers) (sym step.inherit_again) (ran_ok plan params.workers params bound old new refl step ok) in
+      let again : CoreOk bound old step.inherited_again = subst (CoreOk bound old) (sym step.inherit_again) from_old in
+      further_ok params bound old step.inherited_again step.further.0 step.ran_on step.further.1 again_ok again
+
+  -- every run is in order
+  pub run_is_ok : (params : Params) (bound : Option ℕ) (old new : State) → RunStep plan params bound old new → StateOk plan params.workers old → RunOk bound old new
+  run_is_ok params bound old new step ok = subst (RunOk bound old) (sym step.sides) (settle_ok bound old step.ran_on step.settled (run_comes params bound old new step ok) step.settle)

@@ -1,9 +1,9 @@
 -- Searches cs a session keeps them, and cs its state shows them.
 use Rattle.std.proofs.Common.{◌≡◌, ℕ, zero, suc, ◌+◌, ◌-◌, ◌<◌, ◌≤◌, ◌^◌, ◌↔◌, Bool, true, false, List, [], ◌∷◌, ◌++◌, length, set, get_or, ◌⊎◌, inl, inr, refl, ap, sym, ◌∙◌, subst, arith}
-use Rattle.std.specs.Prelude.{Option, Some, None, IsTrue, IfSome, IfNone, slice_get}
+use Rattle.std.specs.Prelude.{Option, Some, None, IsTrue, IfSome, IfNone, Result, Ok, Err, IfOk, slice_get}
 use Rattle.std.specs.List.{AllByRecursion}
 use Rattle.mg_core.specs.declared.entries.Entry.{Entry}
-use Rattle.mg_core.specs.Log.{Settled}
+use Rattle.mg_core.specs.Log.{facts_of, Settled, ModelsAbove}
 use Rattle.mg_ledger.specs.declared.ledger.Account.{Account}
 use Rattle.mg_ledger.specs.Accounts.{no_units, granted_more, given_back}
 use Rattle.mg_ledger.specs.Ledgers.{LedgerState, account_at, Step}
@@ -12,15 +12,20 @@ use Rattle.mg_words.specs.declared.procedure.Procedure.{Procedure}
 use Rattle.mg_workers.specs.declared.held.End.{End}
 use Rattle.mg_workers.specs.declared.held.End.TheVariants as ends
 use Rattle.mg_certs.specs.Claim.{Fact}
-use Rattle.mg_certs.specs.Validity.{key_of}
-use Rattle.mg_search.specs.Search.{Search, ask_of}
+use Rattle.mg_certs.specs.Validity.{key_of, recording}
+use Rattle.mg_search.specs.Search.{Search, ask_of, Reads}
 use Rattle.mg_session.specs.State.{State, SearchState, IsOf, give_back, ended}
-use Rattle.mg_session.specs.Run.{IsSettled, CanGoOn, TakesPart, IsSettledTo, is_found, is_stopped, stays, allow, within_bound}
+use Rattle.mg_session.specs.Run.{IsSettled, CanGoOn, TakesPart, Idles, IsSettledTo, is_found, is_stopped, stays, allow, within_bound}
 use Rattle.mg_session.specs.Session.{IsAbsent, granted, cancelled, end_granted, end_cancelled, new_search}
 use Rattle.mg_session.specs.StateOk.{EndsSo}
 use Rattle.mg_session.specs.Kept.{seen, all_seen, HaveCells, state_of}
-use Rattle.mg_session.specs.At.{IsKeptFor, IsSearchAt, Replaces, with_new, MayRun}
+use Rattle.mg_session.specs.At.{IsKeptFor, IsSearchAt, Replaces, with_new, MayRun, MayIdle, HasUnread}
 use Rattle.mg_session.specs.declared.state.Kept.{Kept}
+use Rattle.mg_session.proofs.Handing.{one_list}
+
+pub if_ok_then : {X E : Type 0} {P Q : X → Type 0} (r : Result X E) → ((x : X) → P x → Q x) → IfOk r P → IfOk r Q
+if_ok_then (Ok x) f h = f x h
+if_ok_then (Err e) f h = tt
 
 pub length_seen : (n : ℕ) (ks : List Kept) (cs : List Account) → length ks ≡ length cs → length (all_seen n ks cs) ≡ length ks
 length_seen n [] cs e = refl
@@ -232,6 +237,36 @@ module _ (s : State) (ledger : LedgerState) (ks : List Kept) (log : List (Entry 
         either : (b : Bool) → (IsTrue b → IsSettled s x) → (IsSettled s x → ⊥) → b ≡ false
         either true then_so none = absurd (none (then_so refl))
         either false then_so none = refl
+
+    -- it idles where the log has a model that it hasn't read, if it may
+    pub idles : (k : Kept) (result : Bool) → k ≡ get_or ks place k → MayIdle k → (IsSettled s x → ⊥) → HasUnread result log (ask_of k.search).group k.read → IsTrue result ↔ Idles s x
+    idles k true e may unsettled unread = (
+      λ _. record {
+        reads = subst (λ (v : SearchState). Reads v.search) (sym (is_kept k e)) may.reads;
+        idle = subst (λ (v : SearchState). v.end ≡ ends.Idle) (sym (is_kept k e)) may.idle;
+        allowed = subst (λ (v : SearchState). 1 ≤ v.allowed) (sym (is_kept k e)) may.allowed;
+        unsettled = unsettled;
+        number = unread.0;
+        model = unread.1;
+        rest = unread.2;
+        unread = subst (λ (v : State). ModelsAbove recording.model_of v.log (ask_of x.search).group x.read ((unread.0, unread.1) ∷ unread.2)) is
+            (subst (λ (v : SearchState). ModelsAbove recording.model_of log (ask_of v.search).group v.read ((unread.0, unread.1) ∷ unread.2)) (sym (is_kept k e)) unread.3);
+      },
+      λ _. refl,
+    )
+    idles k false e may unsettled unread = (
+      λ t. absurd (cc t),
+      λ i. (let some = subst (λ (v : SearchState). ModelsAbove recording.model_of log (ask_of v.search).group v.read ((i.number, i.model) ∷ i.rest)) (is_kept k e)
+          (subst (λ (v : State). ModelsAbove recording.model_of v.log (ask_of x.search).group x.read ((i.number, i.model) ∷ i.rest)) (sym is) i.unread) in
+          let none = one_list recording.model_of (ask_of k.search).group k.read 1 (facts_of log) [] ((i.number, i.model) ∷ i.rest) unread some in absurd (cc none)),
+    )
+
+    pub may_if_idles : (k : Kept) → k ≡ get_or ks place k → Idles s x → MayIdle k
+    may_if_idles k e i = record {
+      reads = subst (λ (v : SearchState). Reads v.search) (is_kept k e) i.reads;
+      idle = subst (λ (v : SearchState). v.end ≡ ends.Idle) (is_kept k e) i.idle;
+      allowed = subst (λ (v : SearchState). 1 ≤ v.allowed) (is_kept k e) i.allowed;
+    }
 
     pub settled_at : (ledger' : LedgerState) (k : Kept) (end : End) → Step ledger (GiveBack place) ledger' → k ≡ get_or ks place k → (k.end ≡ ends.Found → end ≡ ends.Found) → ((k.end ≡ ends.Found → ⊥) → end ≡ ends.Stopped) →
         IsSettled s x → EndsSo s.log x.search x.number x.end →

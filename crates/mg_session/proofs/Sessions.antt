@@ -16,7 +16,7 @@ use Rattle.mg_session.specs.Session.{granted, new_search, cancelled, Grants, to_
 use Rattle.mg_session.specs.Output.{TextOf, Texts, Prints}
 use Rattle.mg_session.specs.StateOk.{StateOk}
 use Rattle.mg_session.specs.RunOk.{IsRunTo}
-use Rattle.mg_session.specs.Built.{one_worker, IsBuilt, IsBuiltStep}
+use Rattle.mg_session.specs.Built.{one_worker}
 use Rattle.mg_session.specs.At.{AreCounted}
 use Rattle.mg_session.specs.Stepped.{IsStepped}
 use Rattle.mg_session.proofs.Lists.{all-append, all-front, all-back}
@@ -137,9 +137,6 @@ module _ (plan : Plan) (IsSize : ℕ → ℕ → ℕ → ℕ → Type 0) (steps 
 
   pub going_step : (d : PlanStep) → IsPlan plan → i < length steps → IsStep plan (step_of (get_or steps i d))
   going_step d is_plan within = all_at (IsStep plan) plan.steps i (step_of (get_or steps i d)) is_plan.steps (step_there d within)
-
-  pub going_built : (d : PlanStep) → IsBuilt plan → i < length steps → IsBuiltStep (step_of (get_or steps i d))
-  going_built d built within = all_at IsBuiltStep plan.steps i (step_of (get_or steps i d)) built (step_there d within)
 
   steps_within : IsPlan plan → i < length steps → i < 4294967294
   steps_within is_plan within =

@@ -24,6 +24,7 @@ use Rattle.mg_session.specs.State.{State, SearchState, Params, IsOf, empty, acco
 use Rattle.mg_session.specs.Run.{KeepsVerdict, after_rows, Rounds, within_bound, allow, TakesPart, Core, Idles, FurtherBy, IsSettledTo, is_found, is_stopped, stays, Settle, RunStep}
 use Rattle.mg_session.specs.Session.{IsAbsent, granted, new_search, cancelled, end_granted, end_cancelled, Grants, to_one_there, to_a_new_one, Cancels, gives_back, is_refused, After, Continues, Session}
 use Rattle.mg_session.specs.StateOk.{IsOpenAt, EndsSo, StandsBeside, IsAsked, AreNumbered, AreOther, AreSingle, HasPass, StateOk}
+use Rattle.mg_session.proofs.Reading.{reads_first}
 use Rattle.mg_session.proofs.Lists.{all-append, all-front, all-back}
 use Rattle.mg_session.proofs.Ledger.{held_there, spent_there, AreBalanced, as_accounts, as_searches, totals_same, spent_same}
 use Rattle.mg_session.proofs.Asks.{AsksSame, legal_more, legal_same, asks_front, legal_within, no_units_above, no_keeper_above}
@@ -162,7 +163,7 @@ module _ (plan : Plan) (workers : ℕ) where
   allow_stand : (log : List (Entry Fact)) (bound : Option ℕ) (xs : List SearchState) → AllByRecursion (λ (x : SearchState). StandsBeside log (row_taken true x)) xs → AllByRecursion (λ (x : SearchState). StandsBeside log (row_taken true x)) (map (allow bound) xs)
   allow_stand log bound [] h = tt
   allow_stand log bound (x ∷ xs) h = (
-    record { in_row = h.0.in_row; units = h.0.units; counted = h.0.counted; allowed = bound_within bound x.account.held; end = h.0.end; published = h.0.published; read = h.0.read },
+    record { in_row = h.0.in_row; units = h.0.units; counted = h.0.counted; allowed = bound_within bound x.account.held; end = h.0.end; published = h.0.published; read = h.0.read; in_order = h.0.in_order },
     allow_stand log bound xs h.1,
   )
 
@@ -175,7 +176,7 @@ module _ (plan : Plan) (workers : ℕ) where
   core_ok : (params : Params) (bound : Option ℕ) (old new : State) → params.workers ≡ workers → Core params bound old new → StateOk plan workers old → StateOk plan workers new
   core_ok params bound old new same core ok = rounds_ok params TakesPart (record old { searches = map (allow bound) old.searches }) new same core.rounds (allow_ok bound old ok)
 
-  further_ok : (params : Params) (old : State) (states : List State) (new : State) → params.workers ≡ workers → FurtherBy plan params old states new → StateOk plan workers old → StateOk plan workers new
+  pub further_ok : (params : Params) (old : State) (states : List State) (new : State) → params.workers ≡ workers → FurtherBy plan params old states new → StateOk plan workers old → StateOk plan workers new
   further_ok params old [] new same h ok = subst (StateOk plan workers) (sym h.1) ok
   further_ok params old (next ∷ states) new same h ok =
       further_ok params next states new same h.4 (subst (StateOk plan workers) (sym h.3) (rounds_ok params Idles old h.1 same h.2 ok))
@@ -200,7 +201,7 @@ module _ (plan : Plan) (workers : ℕ) where
   settled_balanced state x x' (stays s e) b = subst (λ (y : SearchState). Balanced y.account) (sym e) b
 
   with_end : (log : List (Entry Fact)) (x : SearchState) (end : End) → StandsBeside log (row_taken true x) → EndsSo log x.search x.number end → StandsBeside log (row_taken true (ended end (give_back x)))
-  with_end log x end h e = record { in_row = h.in_row; units = h.units; counted = h.counted; allowed = omega arith; end = e; published = h.published; read = h.read }
+  with_end log x end h e = record { in_row = h.in_row; units = h.units; counted = h.counted; allowed = omega arith; end = e; published = h.published; read = h.read; in_order = h.in_order }
 
   found_now : (log : List (Entry Fact)) (x : SearchState) → StandsBeside log (row_taken true x) → Settled key_of log (ask_of x.search) → KeepsVerdict log (ask_of x.search) x.number → EndsSo log x.search x.number ends.Found
   found_now log x h settled keeper = record {
@@ -235,12 +236,12 @@ module _ (plan : Plan) (workers : ℕ) where
   pub ran_ok : (params : Params) (bound : Option ℕ) (old new : State) → params.workers ≡ workers → (step : RunStep plan params bound old new) → StateOk plan workers old → StateOk plan workers step.ran
   ran_ok params bound old new same step ok = core_ok params bound step.inherited step.ran same step.core (subst (StateOk plan workers) (sym step.inherit) ok)
 
+  pub ran_on_ok : (params : Params) (bound : Option ℕ) (old new : State) → params.workers ≡ workers → (step : RunStep plan params bound old new) → StateOk plan workers old → StateOk plan workers step.ran_on
+  ran_on_ok params bound old new same step ok =
+      let again = subst (StateOk plan workers) (sym step.inherit_again) (ran_ok params bound old new same step ok) in further_ok params step.inherited_again step.further.0 step.ran_on same step.further.1 again
+
   pub run_ok : (params : Params) (bound : Option ℕ) (old new : State) → params.workers ≡ workers → RunStep plan params bound old new → StateOk plan workers old → StateOk plan workers new
-  run_ok params bound old new same step ok =
-      let ran = ran_ok params bound old new same step ok in
-      let again = subst (StateOk plan workers) (sym step.inherit_again) ran in
-      let ran_on = further_ok params step.inherited_again step.further.0 step.ran_on same step.further.1 again in
-      subst (StateOk plan workers) (sym step.sides) (settle_ok step.ran_on step.settled step.settle ran_on)
+  run_ok params bound old new same step ok = subst (StateOk plan workers) (sym step.sides) (settle_ok step.ran_on step.settled step.settle (ran_on_ok params bound old new same step ok))
 
   each_same : (xs : List SearchState) → EachPair SameSearch xs xs
   each_same [] = tt
@@ -303,11 +304,11 @@ module _ (plan : Plan) (workers : ℕ) where
   granted_stands : (log : List (Entry Fact)) (units : ℕ) (x : SearchState) → StandsBeside log (row_taken true x) → StandsBeside log (row_taken true (granted units x))
   granted_stands log units x h =
       let within = h.allowed in
-      record { in_row = h.in_row; units = h.units; counted = h.counted; allowed = omega arith; end = end_granted_so log x.search x.number x.end h.end; published = h.published; read = h.read }
+      record { in_row = h.in_row; units = h.units; counted = h.counted; allowed = omega arith; end = end_granted_so log x.search x.number x.end h.end; published = h.published; read = h.read; in_order = h.in_order }
 
   cancelled_stands : (log : List (Entry Fact)) (x : SearchState) → StandsBeside log (row_taken true x) → StandsBeside log (row_taken true (cancelled x))
   cancelled_stands log x h =
-      record { in_row = h.in_row; units = h.units; counted = h.counted; allowed = omega arith; end = end_cancelled_so log x.search x.number x.end h.end; published = h.published; read = h.read }
+      record { in_row = h.in_row; units = h.units; counted = h.counted; allowed = omega arith; end = end_cancelled_so log x.search x.number x.end h.end; published = h.published; read = h.read; in_order = h.in_order }
 
   new_stands : (log : List (Entry Fact)) (question number units : ℕ) (procedure : Procedure) (ask : Inquiry) (x : Search) → AllByRecursion (λ (entry : Entry Fact). entry.search < number) log → Opens procedure ask x → StandsBeside log (row_taken true (new_search question number x units))
   new_stands log question number units procedure ask search below opens = record {
@@ -323,6 +324,7 @@ module _ (plan : Plan) (workers : ℕ) where
     };
     published = λ entry k same. absurd (no_keeper_above number log (ask_of search) entry below k same);
     read = omega arith;
+    in_order = reads_first log procedure ask search opens;
   }
 
   new_asked : (question number units : ℕ) (procedure : Procedure) (ask : Inquiry) (x : Search) → AskOf plan question ask → Opens procedure ask x → IsAsked plan (new_search question number x units)

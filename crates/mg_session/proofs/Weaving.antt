@@ -19,11 +19,11 @@ use Rattle.mg_certs.specs.Validity.{key_of, recording}
 use Rattle.mg_search.specs.Search.{Search, searching, ask_of, is_open}
 use Rattle.mg_search.specs.Sounds.{sound}
 use Rattle.mg_session.specs.State.{State, SearchState, accounts, ledger_of, row_taken, after_row}
-use Rattle.mg_session.specs.Run.{IsRow, after_rows, Rounds, CanGoOn, TakesPart}
+use Rattle.mg_session.specs.Run.{IsRow, after_rows, Rounds, CanGoOn, IsSettled}
 use Rattle.mg_session.specs.StateOk.{EndsSo, StandsBeside}
 use Rattle.mg_session.specs.Kept.{seen, all_seen, HaveCells, state_of}
 use Rattle.mg_session.specs.Built.{one_worker}
-use Rattle.mg_session.specs.At.{AreTaking}
+use Rattle.mg_session.specs.At.{AreTaking, Round, once, again, TakesIn}
 use Rattle.mg_session.specs.Parting.{running, places_of, kept_of, joined, account_after, cells_after, HaveSpent}
 use Rattle.mg_session.specs.declared.state.Kept.{Kept}
 use Rattle.mg_session.specs.declared.parts.Place.{Place}
@@ -116,8 +116,13 @@ all_over [] xs rows h = h
 abbrev came : ℕ → List Bool → List Kept → List Account → List (Row Search)
 came cell runs ks cs = map (held_row false false) (running cell runs ks cs)
 
-module _ (state : State) where
-  are_rows : (cell : ℕ) (runs : List Bool) (ks : List Kept) (cs : List Account) → EachPair (Taking state) (all_seen (cell + 1) ks cs) runs → EachPair (IsRow (TakesPart state)) (all_seen (cell + 1) ks cs) (woven runs (all_seen (cell + 1) ks cs) (came cell runs ks cs))
+-- a search that rounds are made for can go on, and its Ask isn't settled
+takes_on : (round : Round) (state : State) (x : SearchState) → TakesIn round state x → CanGoOn x.end × (IsSettled state x → ⊥)
+takes_on once state x takes = (takes.can_go_on, takes.unsettled)
+takes_on again state x idles = (subst CanGoOn (sym idles.idle) tt, idles.unsettled)
+
+module _ (round : Round) (state : State) where
+  are_rows : (cell : ℕ) (runs : List Bool) (ks : List Kept) (cs : List Account) → EachPair (Taking round state) (all_seen (cell + 1) ks cs) runs → EachPair (IsRow (TakesIn round state)) (all_seen (cell + 1) ks cs) (woven runs (all_seen (cell + 1) ks cs) (came cell runs ks cs))
   are_rows cell [] [] cs h = tt
   are_rows cell (b ∷ runs) [] cs h = absurd h
   are_rows cell [] (k ∷ ks) [] h = tt
@@ -140,7 +145,7 @@ module _ (state : State) where
   abbrev InAll : SearchState → Type 0
   InAll x = x.account.spent + x.account.held ≤ 4611686018427387904
 
-  are_fit : (cell : ℕ) (runs : List Bool) (ks : List Kept) (cs : List Account) → EachPair (Taking state) (all_seen (cell + 1) ks cs) runs → AllByRecursion (λ (x : SearchState). StandsBeside state.log (row_taken true x)) (all_seen (cell + 1) ks cs) →
+  are_fit : (cell : ℕ) (runs : List Bool) (ks : List Kept) (cs : List Account) → EachPair (Taking round state) (all_seen (cell + 1) ks cs) runs → AllByRecursion (λ (x : SearchState). StandsBeside state.log (row_taken true x)) (all_seen (cell + 1) ks cs) →
       AllByRecursion InAll (all_seen (cell + 1) ks cs) → AllByRecursion (IsFit searching) (came cell runs ks cs)
   are_fit cell [] ks cs h stand within = tt
   are_fit cell (true ∷ runs) [] cs h stand within = tt
@@ -148,12 +153,12 @@ module _ (state : State) where
   are_fit cell (true ∷ runs) (k ∷ ks) [] h stand within = tt
   are_fit cell (false ∷ runs) (k ∷ ks) [] h stand within = tt
   are_fit cell (true ∷ runs) (k ∷ ks) (c ∷ cs) h stand within =
-      let takes = h.0.0 refl in (
+      let takes = takes_on round state (seen (cell + 1) k c) (h.0.0 refl) in (
         record {
           within = stand.0.allowed;
           counted = stand.0.units;
           in_all = within.0;
-          openness = λ _ _. open_if k.search (cell + 1) k.end stand.0.end takes.can_go_on takes.unsettled;
+          openness = λ _ _. open_if k.search (cell + 1) k.end stand.0.end takes.0 takes.1;
         },
         are_fit (cell + 1) runs ks cs h.1 stand.1 within.1,
       )
@@ -240,22 +245,22 @@ module _ where
       let long = ap length e ∙ joined_long places ran cs h in
       let cells_too = ap length f ∙ cells_long places ran cs h in record { each = omega arith; few = omega arith }
 
-  taking_long : (state : State) (xs : List SearchState) (runs : List Bool) → EachPair (Taking state) xs runs → length runs ≡ length xs
-  taking_long state [] [] h = refl
-  taking_long state [] (b ∷ runs) h = absurd h
-  taking_long state (x ∷ xs) [] h = absurd h
-  taking_long state (x ∷ xs) (b ∷ runs) h = ap suc (taking_long state xs runs h.1)
+  taking_long : (round : Round) (state : State) (xs : List SearchState) (runs : List Bool) → EachPair (Taking round state) xs runs → length runs ≡ length xs
+  taking_long round state [] [] h = refl
+  taking_long round state [] (b ∷ runs) h = absurd h
+  taking_long round state (x ∷ xs) [] h = absurd h
+  taking_long round state (x ∷ xs) (b ∷ runs) h = ap suc (taking_long round state xs runs h.1)
 
 module _ (state : State) (ledger : LedgerState) (ks : List Kept) (log : List (Entry Fact)) (is : state_of ledger ks log ≡ state) (cells : HaveCells ks ledger.cells) (runs : List Bool)
-    (units : IsLedger (ledger_of state)) (stand : AllByRecursion (λ (x : SearchState). StandsBeside state.log (row_taken true x)) state.searches) (taking : AreTaking state runs) where
+    (units : IsLedger (ledger_of state)) (stand : AllByRecursion (λ (x : SearchState). StandsBeside state.log (row_taken true x)) state.searches) (round : Round) (taking : AreTaking round state runs) where
   abbrev first : State
   first = state_of ledger ks log
 
-  taking_first : AreTaking first runs
-  taking_first = subst (λ (s : State). AreTaking s runs) (sym is) taking
+  taking_first : AreTaking round first runs
+  taking_first = subst (λ (s : State). AreTaking round s runs) (sym is) taking
 
   pub each_run : length runs ≡ length ks
-  each_run = taking_long first first.searches runs taking_first ∙ seen_long 1 ks ledger.cells cells.each
+  each_run = taking_long round first first.searches runs taking_first ∙ seen_long 1 ks ledger.cells cells.each
     where
       seen_long : (n : ℕ) (us : List Kept) (cs : List Account) → length us ≡ length cs → length (all_seen n us cs) ≡ length us
       seen_long n [] cs e = refl
@@ -267,7 +272,7 @@ module _ (state : State) (ledger : LedgerState) (ks : List Kept) (log : List (En
       let units_first : IsLedger (ledger_of first) = subst (λ (s : State). IsLedger (ledger_of s)) (sym is) units in
       let whole = units_first.balance.whole in
       let bounded = units_first.bounded in
-      are_fit first 0 runs ks ledger.cells taking_first (subst (λ (s : State). AllByRecursion (λ (x : SearchState). StandsBeside s.log (row_taken true x)) s.searches) (sym is) stand) (each_within first.searches _ (omega arith))
+      are_fit round first 0 runs ks ledger.cells taking_first (subst (λ (s : State). AllByRecursion (λ (x : SearchState). StandsBeside s.log (row_taken true x)) s.searches) (sym is) stand) (each_within first.searches _ (omega arith))
 
   pub few : length (places_of runs ks) < 2 ^ 32
   few = let long = places_long runs ks each_run in let most = cells.few in omega arith
@@ -280,12 +285,12 @@ module _ (state : State) (ledger : LedgerState) (ks : List Kept) (log : List (En
     spent = have_spent 0 runs ks ledger.cells went.last.rows ran each_run cells.each kept went.rows_are
 
     pub rounds : (ledger' : LedgerState) (ks' : List Kept) → ledger' ≡ record ledger { cells = cells_after (places_of runs ks) ran ledger.cells } → ks' ≡ joined (places_of runs ks) ran →
-        Rounds (one_worker IsSize) TakesPart state (state_of ledger' ks' log')
+        Rounds (one_worker IsSize) (TakesIn round) state (state_of ledger' ks' log')
     rounds ledger' ks' ledger_is ks_is =
-        subst (λ (s : State). Rounds (one_worker IsSize) TakesPart s (state_of ledger' ks' log')) is (record {
+        subst (λ (s : State). Rounds (one_worker IsSize) (TakesIn round) s (state_of ledger' ks' log')) is (record {
           first = all_rows 1 IsSize log runs first.searches (entered (running 0 runs ks ledger.cells) log);
           last = all_rows 1 IsSize log runs first.searches went.last;
-          rows = are_rows first 0 runs ks ledger.cells taking_first;
+          rows = are_rows round first 0 runs ks ledger.cells taking_first;
           log = refl;
           runs = all_run 1 IsSize log runs first.searches (entered (running 0 runs ks ledger.cells) log) went.last went.runs;
           finished = all_over runs first.searches went.last.rows went.finished;

@@ -1,5 +1,5 @@
 -- A session is one with more workers too, and one with a wider relation of sizes.
-use Rattle.std.proofs.Common.{◌≡◌, ℕ, ◌≤◌, List, [], ◌∷◌, inl, inr}
+use Rattle.std.proofs.Common.{ℕ, ◌≤◌, List, [], ◌∷◌}
 use Rattle.std.specs.Prelude.{Option}
 use Rattle.mg_workers.proofs.Events.{runs_widen}
 use Rattle.mg_names.specs.Plan.{Plan, Step, fund, grant, run, cancel, report, report_facts, report_log}

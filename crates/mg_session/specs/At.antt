@@ -4,12 +4,18 @@ use Rattle.std.specs.List.{AllByRecursion}
 use Rattle.mg_ledger.specs.declared.ledger.TheConstants.{MOST_GRANTED}
 use Rattle.mg_words.specs.declared.procedure.Procedure.{Procedure}
 use Rattle.mg_workers.specs.declared.held.End.{End}
+use Rattle.mg_workers.specs.declared.held.End.TheVariants.{Idle}
+use Rattle.mg_core.specs.declared.entries.Entry.{Entry}
+use Rattle.mg_core.specs.Log.{ModelsAbove}
+use Rattle.mg_present.specs.Presentation.{Group}
+use Rattle.mg_certs.specs.Claim.{Fact}
+use Rattle.mg_certs.specs.Validity.{recording}
 use Rattle.mg_workers.specs.Rows.{EachPair}
 use Rattle.mg_present.specs.Ask.{Inquiry}
 use Rattle.mg_names.specs.Plan.{Plan, AskOf}
-use Rattle.mg_search.specs.Search.{Search, procedure_of, Opens}
+use Rattle.mg_search.specs.Search.{Search, procedure_of, Opens, Reads}
 use Rattle.mg_session.specs.State.{State, SearchState, IsOf}
-use Rattle.mg_session.specs.Run.{CanGoOn, TakesPart}
+use Rattle.mg_session.specs.Run.{CanGoOn, TakesPart, Idles}
 use Rattle.mg_session.specs.Session.{IsAbsent, new_search}
 use Rattle.mg_session.specs.declared.state.Kept.{Kept}
 
@@ -48,6 +54,31 @@ pub record MayRun (held : ℕ) (settled : Bool) (end : End) : Type 0 where
 abbrev pub AreCounted : State → Type 0
 AreCounted state = AllByRecursion (λ search. search.account.granted ≤ MOST_GRANTED) state.searches
 
--- which searches take part in a run
-abbrev pub AreTaking : State → List Bool → Type 0
-AreTaking state runs = EachPair (λ search takes. (takes ≡ true) ↔ TakesPart state search) state.searches runs
+-- of a search as it is kept: it reads models, waits for one, and may spend a unit on it
+pub record MayIdle (kept : Kept) : Type 0 where
+  pub reads : Reads kept.search
+  pub idle : kept.end ≡ Idle
+  pub allowed : 1 ≤ kept.allowed
+
+-- whether the log has a model of the group above this number
+abbrev pub HasUnread : Bool → List (Entry Fact) → Group → ℕ → Type 0
+HasUnread true log group read = (number : ℕ) × (model : Fact) × (rest : List (ℕ × Fact)) × ModelsAbove recording.model_of log group read ((number, model) ∷ rest)
+HasUnread false log group read = ModelsAbove recording.model_of log group read []
+
+-- what rounds are made for: the searches that take part in a run, or those that idle beside an unread model
+pub data Round : Type 0 where
+  once : Round
+  again : Round
+
+abbrev pub TakesIn : Round → State → SearchState → Type 0
+TakesIn once = TakesPart
+TakesIn again = Idles
+
+-- which searches rounds are made for
+abbrev pub AreTaking : Round → State → List Bool → Type 0
+AreTaking round state runs = EachPair (λ search takes. (takes ≡ true) ↔ TakesIn round state search) state.searches runs
+
+-- whether some search is to run
+abbrev pub Runs : Bool → List Bool → Type 0
+Runs true runs = (place : ℕ) × (slice_get runs place ≡ Some true)
+Runs false runs = AllByRecursion (λ takes. takes ≡ false) runs

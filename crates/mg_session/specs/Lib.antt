@@ -8,7 +8,7 @@ pub mod Kept
 pub mod Built
 pub mod Scripts
 pub mod Refusing
-pub mod Other
+pub mod Reading
 pub mod At
 pub mod Parting
 pub mod Lookups

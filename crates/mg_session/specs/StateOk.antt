@@ -16,6 +16,7 @@ use Rattle.mg_certs.specs.Validity.{IsValid, key_of}
 use Rattle.mg_search.specs.Search.{Search, ask_of, procedure_of, units_spent, is_open, InRow, HasPublished}
 use Rattle.mg_search.specs.Ends.{CanClose, CanIdle, CanFill}
 use Rattle.mg_session.specs.Run.{KeepsVerdict}
+use Rattle.mg_session.specs.Reading.{ReadsOf}
 use Rattle.mg_session.specs.State.{State, SearchState, ledger_of, asks, row_taken}
 
 -- a search that stands so goes on, or is over; one that was stopped may be either
@@ -51,8 +52,8 @@ pub record EndsSo (log : List (Entry Fact)) (search : Search) (number : ℕ) (en
   pub can_end : CanEnd end (procedure_of search)
 
 -- How a search stands beside the log: its state is one that its turns lead to, and its verdict what that state
--- says; its units are those of its entries; it may spend no more than it holds; and it has read no further
--- than the facts go.
+-- says; its units are those of its entries; it may spend no more than it holds; it has read no further
+-- than the facts go; and the models that it has read are the first ones.
 pub record StandsBeside (log : List (Entry Fact)) (row : Row Search) : Type 0 where
   pub in_row : InRow row.search
   pub units : units_spent row.search ≡ row.spent
@@ -61,6 +62,7 @@ pub record StandsBeside (log : List (Entry Fact)) (row : Row Search) : Type 0 wh
   pub end : EndsSo log row.search row.number row.end
   pub published : (entry : Entry Fact) → KeeperOf key_of log (ask_of row.search) entry → entry.search ≡ row.number → HasPublished row.search entry.records
   pub read : row.read ≤ length (facts_of log)
+  pub in_order : ReadsOf log row.search row.read
 
 -- a search asks what its question does, and its procedure may be used for that
 pub record IsAsked (plan : Plan) (search : SearchState) : Type 0 where

@@ -14,24 +14,25 @@ ghost use Rattle.mg_present.specs.Ask.{Inquiry};
 ghost use Rattle.mg_certs.specs.Claim.{Fact, Verdict};
 ghost use Rattle.mg_certs.specs.Validity.{IsValid, Accepted, IsTrueOf, key_of};
 ghost use Rattle.mg_plain.specs.Plain.{AcceptedBy, Publishes, IsPlain};
-ghost use Rattle.mg_search.specs.Search.{ask_of, procedure_of, is_open, HasPublished, TestsNumbered};
+ghost use Rattle.mg_search.specs.Search.{ask_of, procedure_of, is_open, Reads, HasPublished, TestsNumbered};
 ghost use Rattle.mg_report.specs.Report.{QuestionBlock};
 ghost use Rattle.mg_report.specs.Log.{EntryLine};
 ghost use Rattle.mg_report.specs.Refusals.{fund_refused, grant_refused, cancel_refused};
 ghost use Rattle.mg_session.specs.State.{State, SearchState, Params, accounts};
 ghost use Rattle.mg_session.specs.Run.{RunStep};
+ghost use Rattle.mg_session.specs.Reading.{RefutesNoGoal};
 ghost use Rattle.mg_session.specs.Session.{Session, After, IsThere, IsAbsent};
 ghost use Rattle.mg_session.specs.Output.{IsBlock, IsEntryLine, TextOf, line_of};
 ghost use Rattle.mg_session.specs.Printed.{kept_in, CountKept, PrintsVerdict, Agree};
 ghost use Rattle.mg_session.specs.StateOk.{StateOk};
 ghost use Rattle.mg_session.specs.RunOk.{RunOk, reach};
-ghost use Rattle.mg_session.specs.Scripts.{Resolves, IsRefused, Unbuilt};
+ghost use Rattle.mg_session.specs.Scripts.{Resolves, IsRefused};
 
 use mg_lex::Refused;
 use mg_policy::Sizes;
 
 /// Every list of bytes has a meaning or is refused. It has one meaning only, or is refused at one place for one cause, and
-/// never both; and the first line that asks for what isn't built is one.
+/// never both.
 pub fn a_meaning_or_a_refusal()
     ensures some { (bytes : List ℕ) →
         ((scope : Scope) × Resolves bytes scope) ⊎ ((r : Refused) × IsRefused bytes r) }
@@ -41,7 +42,6 @@ pub fn a_meaning_or_a_refusal()
         r ≡ s }
     ensures never_both { (bytes : List ℕ) (scope : Scope) (r : Refused) → Resolves bytes scope →
         IsRefused bytes r → ⊥ }
-    ensures unbuilt { (bytes : List ℕ) (m n : ℕ) → Unbuilt bytes m → Unbuilt bytes n → m ≡ n }
 {}
 
 /// A session has a state before each step, and one behind the last.
@@ -94,6 +94,20 @@ pub fn open_searches_spend_their_reach<P: Sizes>()
         (Settled key_of new.log (ask_of search.search) → ⊥) →
         (after : SearchState) × (slice_get new.searches place ≡ Some after) ×
         (after.account.spent ≡ reach bound search) }
+{}
+
+/// Where the Ask of a search that reads models isn't settled after the run, and the search has spent less than its reach, no
+/// model of its group among the facts refutes a goal.
+pub fn nothing_unread_is_left<P: Sizes>()
+    ensures { (plan : Plan) (policy : P) (workers : ℕ) (bound : Option ℕ) (old new : State)
+        (place : ℕ) (search after : SearchState) →
+        StateOk plan workers old →
+        RunStep plan (record { workers = workers; IsSize = P.is_size policy }) bound old new →
+        slice_get old.searches place ≡ Some search → slice_get new.searches place ≡ Some after →
+        Reads search.search →
+        (Settled key_of new.log (ask_of search.search) → ⊥) →
+        after.account.spent < reach bound search →
+        AllByRecursion (RefutesNoGoal (ask_of search.search)) (facts_of new.log) }
 {}
 
 /// Each state of a session leads to the next one by the step between them.

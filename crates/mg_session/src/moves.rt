@@ -4,7 +4,7 @@ ghost use Rattle.mg_present.specs.Ask.{Inquiry};
 ghost use Rattle.mg_present.specs.Applies.{Applies};
 ghost use Rattle.mg_names.specs.IsPlan.{CanBeAsked};
 ghost use Rattle.mg_names.specs.Plan.{Plan as PlanOf, AskOf, fund, grant, cancel};
-ghost use Rattle.mg_search.specs.Search.{IsBuilt, Opens};
+ghost use Rattle.mg_search.specs.Search.{Opens};
 ghost use Rattle.mg_session.specs.Session.{After, IsAbsent};
 ghost use Rattle.mg_session.specs.Output.{TextOf};
 ghost use Rattle.mg_session.specs.Built.{no_turns};
@@ -32,8 +32,7 @@ fn ask_at(plan: &Plan, question: u32) -> &Ask
 
 /// A search that has spent nothing.
 fn start(alloc: Global, procedure: Procedure, ask: &Ask) -> Result<Search, NoMemory>
-    requires built { IsBuilt procedure }
-    requires applies { Applies procedure ask.now }
+    requires { Applies procedure ask.now }
     ensures { IfOk result (λ search. Opens procedure ask.now search) }
 {
     match Search::start(alloc, procedure, ask) {
@@ -67,7 +66,6 @@ impl Session {
         units: u64,
     ) -> Result<Vec<u8>, NoMemory>
         requires asked { CanBeAsked plan.now question procedure }
-        requires built { IsBuilt procedure }
         requires few { length self.old.searches < u32.MAX }
         requires counted { AreCounted self.old }
         ensures after { OnOk result (After plan.now no_turns (grant question procedure units)
@@ -94,7 +92,6 @@ impl Session {
         procedure: Procedure,
     ) -> Result<u32, NoMemory>
         requires asked { CanBeAsked plan.now question procedure }
-        requires built { IsBuilt procedure }
         requires few { length self.old.searches < u32.MAX }
         ensures { IfOk result (λ place.
             IsReady plan.now question procedure self.old place self.new) }

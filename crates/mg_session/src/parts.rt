@@ -3,11 +3,11 @@ ghost use Rattle.std.specs.Prelude.{◌≡◌, ◌+◌, ◌-◌, ◌<◌, ◌≤
 ghost use Rattle.std.specs.List.{AllByRecursion};
 ghost use Rattle.mg_ledger.specs.Ledgers.{IsLedger, account_at};
 ghost use Rattle.mg_session.specs.State.{row_taken, ledger_of};
-ghost use Rattle.mg_session.specs.Run.{Rounds, TakesPart};
+ghost use Rattle.mg_session.specs.Run.{Rounds};
 ghost use Rattle.mg_session.specs.StateOk.{StandsBeside};
 ghost use Rattle.mg_session.specs.Kept.{HaveCells};
 ghost use Rattle.mg_session.specs.Built.{one_worker};
-ghost use Rattle.mg_session.specs.At.{AreTaking};
+ghost use Rattle.mg_session.specs.At.{AreTaking, Round, TakesIn};
 ghost use Rattle.mg_session.specs.Parting.{held_of, running, places_of, kept_of, joined, cells_after, HaveSpent, IsPutBack};
 ghost use Rattle.mg_session.specs.declared.parts.Place.{Place as PlaceOf};
 
@@ -181,7 +181,7 @@ fn join(
 }
 
 impl Session {
-    /// Lets those searches run that take part, as one worker, until each has left or has no allowed units.
+    /// Lets these searches run, as one worker, until each has left or has no allowed units.
     pub(crate) fn rounds<P: Sizes>(
         self,
         alloc: Global,
@@ -192,9 +192,9 @@ impl Session {
         requires ledger { IsLedger (ledger_of self) }
         requires stand { AllByRecursion (λ search.
             StandsBeside self.log (row_taken true search)) self.searches }
-        requires taking { AreTaking self runs.now }
-        ensures { IfOk result (λ after.
-            Rounds (one_worker (P.is_size policy.now)) TakesPart self after) }
+        requires taking { (round : Round) × AreTaking round self runs.now }
+        ensures { IfOk result (λ after. (round : Round) → AreTaking round self runs.now →
+            Rounds (one_worker (P.is_size policy.now)) (TakesIn round) self after) }
     {
         let Session {
             mut ledger,

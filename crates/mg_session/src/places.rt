@@ -3,22 +3,23 @@ ghost use Rattle.std.specs.Prelude.{◌≡◌, ◌+◌, ◌-◌, ◌<◌, ◌≤
 ghost use Rattle.std.specs.List.{AllByRecursion};
 ghost use Rattle.mg_core.specs.Log.{Settled};
 ghost use Rattle.mg_ledger.specs.declared.ledger.TheConstants.{MOST_GRANTED};
-ghost use Rattle.mg_workers.specs.declared.held.End.TheVariants.{Found, Stopped};
+ghost use Rattle.mg_workers.specs.declared.held.End.TheVariants.{Found, Idle, Stopped};
 ghost use Rattle.mg_certs.specs.Validity.{key_of};
 ghost use Rattle.mg_session.specs.State.{SearchState};
-ghost use Rattle.mg_session.specs.Run.{CanGoOn, TakesPart, IsSettled, IsSettledTo, within_bound, allow as allowed};
+ghost use Rattle.mg_session.specs.Run.{CanGoOn, Idles, TakesPart, IsSettled, IsSettledTo, within_bound, allow as allowed};
 ghost use Rattle.mg_session.specs.Session.{IsAbsent, end_granted, end_cancelled, granted, cancelled};
 ghost use Rattle.mg_session.specs.StateOk.{EndsSo};
-ghost use Rattle.mg_session.specs.At.{IsKeptFor, IsSearchAt, MayRun, Replaces, with_new};
+ghost use Rattle.mg_session.specs.At.{HasUnread, IsKeptFor, IsSearchAt, MayIdle, MayRun, Replaces, with_new};
 
 use crate::state::{Kept, Session};
 use mg_certs::Claim;
 use mg_core::{Book, NoMemory};
-use mg_present::Ask;
+use mg_present::{Ask, Presentation};
 use mg_search::Search;
 use mg_turn::Searcher;
 use mg_words::Procedure;
 use mg_workers::End;
+use std::alloc::Global;
 
 /// How a search stands that is granted units.
 fn end_if_granted(end: End) -> End
@@ -66,6 +67,33 @@ fn may_run(held: u64, settled: bool, end: End) -> bool
     ensures { IsTrue result ↔ MayRun held settled end }
 {
     held >= 1 && !settled && can_go_on(end)
+}
+
+/// Whether a search that stands so waits for a model.
+fn is_idle(end: End) -> bool
+    ensures { IsTrue result ↔ (end ≡ Idle) }
+{
+    matches!(end, End::Idle)
+}
+
+/// Whether a search reads models, waits for one and may spend a unit on it.
+fn may_idle(kept: &Kept) -> bool
+    ensures { IsTrue result ↔ MayIdle kept.now }
+{
+    kept.search.reads() && is_idle(kept.end) && kept.allowed >= 1
+}
+
+/// Whether the book has a model of the group above a number.
+fn has_unread(
+    alloc: Global,
+    book: &Book<Claim>,
+    group: &Presentation,
+    read: u64,
+) -> Result<bool, NoMemory>
+    ensures { IfOk result (λ some. HasUnread some book.now group.now read) }
+{
+    let facts = book.models(alloc, group, read, 1)?;
+    Ok(!facts.records.as_slice().is_empty())
 }
 
 /// Whether the book has a verdict for the Ask.
@@ -210,6 +238,24 @@ impl Session {
         let settled = self.is_settled(place);
         let held = self.ledger.account(place).held;
         may_run(held, settled, self.searches[place as usize].end)
+    }
+
+    /// Whether a search idles beside a model: it may spend a unit, its Ask isn't settled, and the book has a model of its
+    /// group that it hasn't read.
+    pub(crate) fn idles(&self, alloc: Global, place: u32) -> Result<bool, NoMemory>
+        requires there { place < length self.now.searches }
+        ensures { IfOk result (λ idles. (x : SearchState) →
+            slice_get self.now.searches place ≡ Some x → IsTrue idles ↔ Idles self.now x) }
+    {
+        let kept = &self.searches[place as usize];
+        if !may_idle(kept) {
+            return Ok(false);
+        }
+        let settled = self.is_settled(place);
+        if settled {
+            return Ok(false);
+        }
+        has_unread(alloc, &self.book, kept.search.group(), kept.read)
     }
 
     /// Where the Ask of a search is settled, moves what it holds back to the purse. It stands found where it found, and

@@ -4,7 +4,6 @@ ghost use Rattle.mg_names.specs.IsPlan.{IsPlan, IsStep};
 ghost use Rattle.mg_names.specs.Values.{step_of};
 ghost use Rattle.mg_session.specs.StateOk.{StateOk};
 ghost use Rattle.mg_session.specs.Output.{Prints};
-ghost use Rattle.mg_session.specs.Built.{IsBuilt, IsBuiltStep};
 ghost use Rattle.mg_session.specs.At.{AreCounted};
 ghost use Rattle.mg_session.specs.Stepped.{IsStepped};
 
@@ -36,7 +35,6 @@ fn take_step<P: Sizes>(
     requires plan { IsPlan plan.now }
     requires policy { P.fit policy.now }
     requires step { IsStep plan.now (step_of step) }
-    requires built { IsBuiltStep (step_of step) }
     requires ok { StateOk plan.now 1 session }
     requires few { length session.searches < u32.MAX }
     requires counted { AreCounted session }
@@ -95,7 +93,6 @@ pub fn run_plan<P: Sizes>(
     requires plan { IsPlan plan.now }
     requires workers { 1 ≤ _workers }
     requires policy { P.fit policy.now }
-    requires built { IsBuilt plan.now }
     ensures { IfOk result (λ output. Prints plan.now
         (record { workers = _workers; IsSize = P.is_size policy.now }) output) }
 {

@@ -1,5 +1,5 @@
--- What the program is asked to do, and what it can't do yet.
-use Rattle.std.specs.Prelude.{◌≡◌, ℕ, Bool, Option, IfSome, List}
+-- What the program is asked to do.
+use Rattle.std.specs.Prelude.{ℕ, Bool, List}
 use Rattle.std.specs.Borrow.{Bor}
 use Rattle.mg_command.specs.declared.command.Command.TheVariants.{Run, Check, Sample}
 use Rattle.mg_command.specs.declared.command.PolicyName.{PolicyName}
@@ -9,9 +9,8 @@ use Rattle.mg_policy.specs.Sizes.{IsEven, IsDoubling}
 use Rattle.mg_names.specs.Scope.{Scope}
 use Rattle.mg_session.specs.State.{Params}
 use Rattle.mg_session.specs.Scripts.{Resolves}
-use Rattle.mg_session.specs.Scripts as session
 use Rattle.mg_top.specs.declared.status.Status.{Status}
-use Rattle.mg_top.specs.declared.status.Status.TheVariants.{Done, ReadFault, WriteFault, ScriptRefused, NoMemory, NotBuilt}
+use Rattle.mg_top.specs.declared.status.Status.TheVariants.{Done, ReadFault, WriteFault, ScriptRefused, NoMemory}
 
 -- the sizes of turns by the policy of this name
 abbrev pub sizes_of : PolicyName → ℕ → ℕ → ℕ → ℕ → Type 0
@@ -30,21 +29,14 @@ AsRun words Holds = (workers : ℕ) × (policy : PolicyName) × Says (texts word
 abbrev pub IsRunCommand : List (Bor (List ℕ)) → Type 0
 IsRunCommand words = (workers : ℕ) × (policy : PolicyName) × Says (texts words) (Run workers policy)
 
--- the words are a form of `check` or of `sample`
+-- the words are a form of `check` or of `sample`, which aren't built
 pub data IsOtherForm (words : List (Bor (List ℕ))) : Type 0 where
   is_check : Says (texts words) Check → IsOtherForm words
   is_sample : (number : ℕ) (runs : Bool) → Says (texts words) (Sample number runs) → IsOtherForm words
 
--- what isn't built: another command, told with line 0, and a line of a script, where the source tells it
-pub data Unbuilt (words : List (Bor (List ℕ))) (script : Option (List ℕ)) (line : ℕ) : Type 0 where
-  other_form : IsOtherForm words → line ≡ 0 → Unbuilt words script line
-  in_script : IsRunCommand words → IfSome script (λ bytes. session.Unbuilt bytes line) → Unbuilt words script line
-
--- the script has a meaning, and asks for nothing that isn't built
-pub record IsBuilt (script : List ℕ) : Type 0 where
-  pub scope : Scope
-  pub resolves : Resolves script scope
-  pub none : (line : ℕ) → session.Unbuilt script line → ⊥
+-- the script is accepted: it has a meaning
+abbrev pub HasMeaning : List ℕ → Type 0
+HasMeaning script = (scope : Scope) × Resolves script scope
 
 -- the script was run
 abbrev pub HasRun : Status → Type 0
@@ -55,7 +47,6 @@ HasRun _ = ⊥
 -- the script was read to its end
 abbrev pub HasRead : Status → Type 0
 HasRead (ScriptRefused r) = Unit {0}
-HasRead (NotBuilt line) = Unit {0}
 HasRead status = HasRun status
 
 -- the script was answered: run and written out, or stopped by a fault of the source or of the sink that was counted, or

@@ -1,5 +1,5 @@
 //! Laws of legal outputs. Each stands on a function without a body.
-ghost use Rattle.std.specs.Prelude.{◌≡◌, ℕ, ◌+◌, ◌≤◌, List, Option, Some, None, IfSome, Contains, slice_get};
+ghost use Rattle.std.specs.Prelude.{◌≡◌, ℕ, ◌+◌, ◌<◌, ◌≤◌, List, Option, Some, None, IfSome, Contains, slice_get};
 ghost use Rattle.std.specs.List.{AllByRecursion};
 ghost use Rattle.mg_core.specs.declared.entries.Entry.{Entry as EntryOf};
 ghost use Rattle.mg_core.specs.Log.{facts_of, Settled, KeeperOf};
@@ -14,11 +14,12 @@ ghost use Rattle.mg_report.specs.Log.{facts_text};
 ghost use Rattle.mg_certs.specs.Claim.{Fact, Verdict};
 ghost use Rattle.mg_certs.specs.Validity.{IsValid, Accepted, IsTrueOf, key_of};
 ghost use Rattle.mg_plain.specs.Plain.{AcceptedBy, Publishes, IsPlain};
-ghost use Rattle.mg_search.specs.Search.{ask_of, procedure_of, TestsNumbered};
+ghost use Rattle.mg_search.specs.Search.{ask_of, procedure_of, Reads, TestsNumbered};
 ghost use Rattle.mg_session.specs.State.{State, SearchState, accounts};
 ghost use Rattle.mg_session.specs.Session.{IsThere};
 ghost use Rattle.mg_session.specs.Output.{IsBlock, line_of};
 ghost use Rattle.mg_session.specs.StateOk.{StateOk};
+ghost use Rattle.mg_session.specs.Reading.{RefutesNoGoal};
 ghost use Rattle.mg_session.specs.RunOk.{reach};
 ghost use Rattle.mg_session.specs.Scripts.{IsOutput};
 ghost use Rattle.mg_session.specs.Printed.{IsPrinted, IsLogOf, Agree};
@@ -137,6 +138,22 @@ pub fn the_first_number_settles()
         KeeperOf key_of state.log (ask_of search.search) entry → entry.search ≡ search.number →
         (n : ℕ) × First (AcceptedBy (procedure_of search.search) (ask_of search.search)) n ×
         Publishes (procedure_of search.search) (ask_of search.search) n entry.records }
+{}
+
+/// Behind a legal output, where a run leaves the Ask of a search that reads models unsettled, and the search has spent less
+/// than its reach, no model of its group among the facts refutes a goal.
+pub fn nothing_unread_is_left()
+    ensures { (workers : ℕ) (policy : PolicyName) (script output : List ℕ)
+        (legal : IsOutput script (params_of workers policy) output)
+        (step : ℕ) (bound : Option ℕ) (old new : State) (place : ℕ) (search after : SearchState) →
+        slice_get legal.scope.plan.steps step ≡ Some (run bound) →
+        slice_get legal.prints.states step ≡ Some old →
+        slice_get legal.prints.states (step + 1) ≡ Some new →
+        slice_get old.searches place ≡ Some search → slice_get new.searches place ≡ Some after →
+        Reads search.search →
+        (Settled key_of new.log (ask_of search.search) → ⊥) →
+        after.account.spent < reach bound search →
+        AllByRecursion (RefutesNoGoal (ask_of search.search)) (facts_of new.log) }
 {}
 
 /// Behind a legal output the facts of each state are valid. `report facts` prints these, and `report log` shows of the

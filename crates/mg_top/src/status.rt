@@ -25,9 +25,9 @@ pub enum Status {
     TooLong,
     /// Want of memory. Nothing was written.
     NoMemory,
-    /// The program can't do this yet. Nothing was written.
+    /// The program can't do yet what the command words ask for. Nothing was read or written.
     NotBuilt {
-        /// The line of the script that asks for it, or 0.
+        /// Always 0: no line of a script asks for it.
         line: u32,
     },
 }

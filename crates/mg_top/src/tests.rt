@@ -10,6 +10,7 @@ use std::thread::Threads;
 
 mod completed;
 mod limits;
+mod recalled;
 mod reduced;
 mod refuted;
 mod rows;
@@ -65,9 +66,6 @@ const NOTHING_REPORT: &[u8] =
 
 const REFUSED: &[u8] = b"group G = < a >\nask q : c = 1 in G\n";
 
-const UNBUILT: &[u8] =
-    b"group G = < a >\nask q : a = 1 in G\nfund 100\ngrant q derive 21\ngrant q recall 21\nrun\n";
-
 /// Whether a script ends with this status when these calls fail, and this was written then.
 fn ends<R: AllocGlobal + Threads + Wait + Sync>(
     rt: &R,
@@ -119,12 +117,6 @@ fn refused_scripts_are_told(rt: HostRuntime) -> Result<(), Fail> {
             b""
         )?
     );
-    Ok(())
-}
-
-#[test]
-fn what_is_not_built_is_told(rt: HostRuntime) -> Result<(), Fail> {
-    assert!(rt; ends(&rt, UNBUILT, &[], &[], Status::NotBuilt { line: 5 }, b"")?);
     Ok(())
 }
 
@@ -203,21 +195,13 @@ fn refusals_have_their_exits(rt: HostRuntime) -> Result<(), Fail> {
 }
 
 #[test]
-fn lines_that_are_not_built_have_their_exits(rt: HostRuntime) -> Result<(), Fail> {
+fn words_that_are_not_built_have_their_exits(rt: HostRuntime) -> Result<(), Fail> {
     assert!(rt;
         tells(
             &rt,
             Status::NotBuilt { line: 0 },
             6,
             b"magnus: line 0: not built"
-        )?
-    );
-    assert!(rt;
-        tells(
-            &rt,
-            Status::NotBuilt { line: 17 },
-            6,
-            b"magnus: line 17: not built"
         )?
     );
     Ok(())

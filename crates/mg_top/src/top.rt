@@ -1,16 +1,15 @@
 //! The top call, which does all that the program does.
-ghost use Rattle.std.specs.Prelude.{◌≡◌, ◌≢◌, ℕ, ◌<◌, ◌-◌, ◌≤◌, ◌^◌, List, [], Some, Err, take, IfOk, IfSome, OnOk, length};
+ghost use Rattle.std.specs.Prelude.{◌≡◌, ◌≢◌, ◌⊎◌, ℕ, ◌<◌, ◌-◌, ◌≤◌, ◌^◌, List, [], Some, Err, take, IfOk, IfSome, length};
 ghost use Rattle.std.specs.Io.KnownBytes.{Appends};
 ghost use Rattle.mg_io.specs.Causes.{Rose};
 ghost use Rattle.mg_command.specs.Words.{Lacks, texts};
 ghost use Rattle.mg_policy.specs.Sizes.{IsEven, IsDoubling};
 ghost use Rattle.mg_session.specs.Scripts.{IsRefused, IsOutput};
-ghost use Rattle.mg_session.specs.Scripts.{Unbuilt as UnbuiltIn};
-ghost use Rattle.mg_top.specs.Command.{AsRun, IsRunCommand, IsOtherForm, Unbuilt, IsBuilt, HasRun, HasRead, IsAnswered, params_of};
+ghost use Rattle.mg_top.specs.Command.{AsRun, IsRunCommand, IsOtherForm, HasMeaning, HasRun, HasRead, IsAnswered, params_of};
 
 use crate::gate::Gate;
 use crate::status::{MOST_SCRIPT_BYTES, Status};
-use mg_command::{Command, PolicyName, UsageCause, read_words};
+use mg_command::{Command, PolicyName, UsageCause, WordsRefused, read_words};
 use mg_io::{ReadRefused, Sink, Source, read_all, write_all};
 use mg_lex::{Refused, Text};
 use mg_policy::{Policy, doubling, even};
@@ -60,33 +59,34 @@ pub fn magnus<X: Threads + Wait + Sync, S: Source, K: Sink, G: Gate + Sync>(
     ensures whole { IsRunCommand words.now → HasRead result → IfSome (S.left source.old) (λ script.
         (length script ≤ MOST_SCRIPT_BYTES) × (S.left source.new ≡ Some [])) }
 
-    // Words that ask for nothing are told their cause, exactly where they have it, and nothing is read for them.
+    // Words that ask for nothing are told their cause, exactly where they have it, or that memory was wanting, and
+    // nothing is read for them.
     ensures usage { (cause : UsageCause) → result ≡ Status.Usage cause →
         Lacks (texts words.now) cause }
     ensures lacks { (cause : UsageCause) → Lacks (texts words.now) cause →
-        (result ≡ Status.Usage cause) × (source.new ≡ source.old) }
+        ((result ≡ Status.Usage cause) ⊎ (result ≡ Status.NoMemory)) × (source.new ≡ source.old) }
 
-    // What isn't built is told where it is asked for. A script is run only where it has a meaning and asks for
-    // nothing that isn't built. Nothing is read for other commands.
+    // What isn't built is told of the forms of other commands alone, with line 0, and nothing is read for them. A script
+    // is run only where it has a meaning.
     ensures not_built { (line : ℕ) → result ≡ Status.NotBuilt line →
-        Unbuilt words.now (S.left source.old) line }
-    ensures built { HasRun result → IfSome (S.left source.old) IsBuilt }
-    ensures line_zero { result ≡ Status.NotBuilt 0 → IsOtherForm words.now }
+        IsOtherForm words.now × (line ≡ 0) }
+    ensures meaning { HasRun result → IfSome (S.left source.old) HasMeaning }
     ensures other_form { IsOtherForm words.now →
-        (result ≡ Status.NotBuilt 0) × (source.new ≡ source.old) }
+        ((result ≡ Status.NotBuilt 0) ⊎ (result ≡ Status.NoMemory)) × (source.new ≡ source.old) }
 
-    // A script that isn't too long, has a meaning and asks for nothing that isn't built is answered: all went well,
-    // or a fault was counted, or memory was wanting.
+    // A script that isn't too long and has a meaning is answered: all went well, or a fault was counted, or memory was
+    // wanting.
     ensures complete { IsRunCommand words.now →
-        IfSome (S.left source.old) (λ script. length script ≤ MOST_SCRIPT_BYTES → IsBuilt script →
+        IfSome (S.left source.old) (λ script. length script ≤ MOST_SCRIPT_BYTES → HasMeaning script →
         IsAnswered result (Rose (S.faults source.old) (S.faults source.new))
         (Rose (K.faults sink.old) (K.faults sink.new))) }
 {
-    match read_words(words) {
+    match read_words(alloc, words) {
         Ok(Command::Run { workers, policy }) => run_command(alloc, workers, policy, source, sink),
         Ok(Command::Check) => Status::NotBuilt { line: 0 },
         Ok(Command::Sample { .. }) => Status::NotBuilt { line: 0 },
-        Err(cause) => Status::Usage(cause),
+        Err(WordsRefused::Usage(cause)) => Status::Usage(cause),
+        Err(WordsRefused::NoMemory) => Status::NoMemory,
     }
 }
 
@@ -123,12 +123,10 @@ fn run_command<S: Source, K: Sink>(
         IfSome (S.left source.old) (λ script. MOST_SCRIPT_BYTES < length script) }
     ensures whole { HasRead result → IfSome (S.left source.old) (λ script.
         (length script ≤ MOST_SCRIPT_BYTES) × (S.left source.new ≡ Some [])) }
-    ensures not_built { (line : ℕ) → result ≡ Status.NotBuilt line →
-        IfSome (S.left source.old) (λ script. UnbuiltIn script line) }
-    ensures line { result ≢ Status.NotBuilt 0 }
-    ensures built { HasRun result → IfSome (S.left source.old) IsBuilt }
+    ensures not_built { (line : ℕ) → result ≢ Status.NotBuilt line }
+    ensures meaning { HasRun result → IfSome (S.left source.old) HasMeaning }
     ensures complete { IfSome (S.left source.old) (λ script.
-        length script ≤ MOST_SCRIPT_BYTES → IsBuilt script →
+        length script ≤ MOST_SCRIPT_BYTES → HasMeaning script →
         IsAnswered result (Rose (S.faults source.old) (S.faults source.new))
         (Rose (K.faults sink.old) (K.faults sink.new))) }
 {
@@ -141,7 +139,6 @@ fn run_command<S: Source, K: Sink>(
     let output = match run_named(alloc, script.as_slice(), workers, policy) {
         Ok(output) => output,
         Err(SessionRefused::Script(refused)) => return Status::ScriptRefused(refused),
-        Err(SessionRefused::NotBuilt { line }) => return Status::NotBuilt { line },
         Err(SessionRefused::NoMemory) => return Status::NoMemory,
     };
     match write_all(sink, output.as_slice()) {
@@ -163,9 +160,6 @@ fn run_named(
     ensures output { IfOk result (IsOutput script.now (params_of workers policy)) }
     ensures script { (r : Refused) → result ≡ Err (SessionRefused.Script r) →
         IsRefused script.now r }
-    ensures not_built { (line : ℕ) → result ≡ Err (SessionRefused.NotBuilt line) →
-        UnbuiltIn script.now line }
-    ensures built { OnOk result ((line : ℕ) → UnbuiltIn script.now line → ⊥) }
 {
     match policy {
         PolicyName::Even => {

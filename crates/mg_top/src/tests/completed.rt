@@ -3,7 +3,11 @@
 use super::refused_at;
 use super::rows::{fails, prints};
 use crate::*;
+use mg_fixtures::ask;
 use mg_lex::Cause;
+use mg_lists::List;
+use mg_rulelog::{RuleLog, accepts};
+use std::alloc::Global;
 use std::test::Fail;
 
 const FOURTH: &[u8] = b"group C2 = < a | a^2 >
@@ -406,5 +410,22 @@ fn rewrite_takes_no_subgroup_words(rt: HostRuntime) -> Result<(), Fail> {
             refused_at(4, 9, Cause::ProcedureDoesNotApply)
         )?
     );
+    Ok(())
+}
+
+// Whether a log without rules and without lists is accepted for the Ask.
+fn needs_no_log(alloc: Global, text: &str) -> Option<bool> {
+    let ask = ask(alloc, text)?;
+    let log = RuleLog {
+        rules: List::new(alloc),
+        goals: List::new(alloc),
+    };
+    accepts(alloc, &ask, &log).ok()
+}
+
+#[test]
+fn a_log_has_a_list_for_each_goal(rt: HostRuntime) -> Result<(), Fail> {
+    assert!(rt; needs_no_log(rt.alloc(), "1 aa | | ") == Some(true));
+    assert!(rt; needs_no_log(rt.alloc(), "1 aa | | a") == Some(false));
     Ok(())
 }

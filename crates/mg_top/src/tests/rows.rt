@@ -444,14 +444,6 @@ const TOO_LONG_WORD: &[u8] = b"group G = < a | a^2 >
 ask q : a^10001 = 1 in G
 ";
 
-const BY_MODELS: &[u8] = b"group G = < a | a^2 >
-ask q : a = 1 in G
-fund 5
-grant q residue 1
-grant q recall 3
-run
-";
-
 /// Whether a script prints this.
 pub(super) fn prints<R: AllocGlobal + Threads + Wait + Sync>(
     rt: &R,
@@ -530,7 +522,6 @@ pub(super) fn fails<R: AllocGlobal + Threads + Wait + Sync>(
 fn scripts_are_refused_at_their_places(rt: HostRuntime) -> Result<(), Fail> {
     assert!(rt; fails(&rt, UNKNOWN, refused_at(2, 9, Cause::UnknownGenerator))?);
     assert!(rt; fails(&rt, TOO_LONG_WORD, refused_at(2, 11, Cause::WordTooLong))?);
-    assert!(rt; fails(&rt, BY_MODELS, Status::NotBuilt { line: 5 })?);
     Ok(())
 }
 

@@ -1,4 +1,4 @@
-use Rattle.mg_session.proofs.Meanings.{meaning_or_refusal, one_scope, one_refusal, never_both, one_unbuilt}
+use Rattle.mg_session.proofs.Meanings.{meaning_or_refusal, one_scope, one_refusal, never_both}
 use Rattle.mg_session.proofs.laws.a_meaning_or_a_refusal.Goals as goal
 
 pub returns-clause-some : goal.returns-clause-some
@@ -12,6 +12,3 @@ returns-clause-refusal c = one_refusal
 
 pub returns-clause-never_both : goal.returns-clause-never_both
 returns-clause-never_both c = never_both
-
-pub returns-clause-unbuilt : goal.returns-clause-unbuilt
-returns-clause-unbuilt c = one_unbuilt

@@ -4,7 +4,7 @@ use Rattle.mg_names.specs.Plan.{Plan}
 use Rattle.mg_names.specs.Values.{step_of}
 use Rattle.mg_names.specs.declared.plan.PlanStep.TheVariants.{Fund}
 use Rattle.mg_session.specs.Built.{one_worker}
-use Rattle.mg_session.proofs.Sessions.{going_begins, going_step, going_built, going_few, going_counted, going_next, going_done}
+use Rattle.mg_session.proofs.Sessions.{going_begins, going_step, going_few, going_counted, going_next, going_done}
 use Rattle.mg_session.proofs.Widening.{prints_widen}
 use Rattle.mg_session.proofs.session.run_plan.Goals as goal
 
@@ -17,7 +17,6 @@ take_step-requires g c = record {
   plan = c.requires.plan;
   policy = c.requires.policy;
   step = going_step c.args.plan.now (g.P.Sizes.is_size c.args.policy.now) c.as_slice-steps.result.now c.loop-step.step-index c.loop-step.session c.loop-step.output c.loop-step.invariant (Fund 0) c.requires.plan c.loop-step-test.true;
-  built = going_built c.args.plan.now (g.P.Sizes.is_size c.args.policy.now) c.as_slice-steps.result.now c.loop-step.step-index c.loop-step.session c.loop-step.output c.loop-step.invariant (Fund 0) c.requires.built c.loop-step-test.true;
   ok = c.loop-step.invariant.ok;
   few = going_few c.args.plan.now (g.P.Sizes.is_size c.args.policy.now) c.as_slice-steps.result.now c.loop-step.step-index c.loop-step.session c.loop-step.output c.loop-step.invariant c.requires.plan c.loop-step-test.true;
   counted = going_counted c.args.plan.now (g.P.Sizes.is_size c.args.policy.now) c.as_slice-steps.result.now c.loop-step.step-index c.loop-step.session c.loop-step.output c.loop-step.invariant c.requires.plan c.loop-step-test.true;

@@ -7,8 +7,8 @@ use Rattle.mg_session.proofs.state.Session.make_ready.Goals as goal
 pub ask_at-requires : goal.ask_at-requires
 ask_at-requires c = (c.requires.asked.ask, c.requires.asked.asked)
 
-pub start-requires-clause-applies : goal.start-requires-clause-applies
-start-requires-clause-applies c =
+pub start-requires : goal.start-requires
+start-requires c =
     let asked = c.requires.asked in
     subst (Applies c.args.procedure) (asks_once c.args.plan.now c.args.question asked.ask c.ask_at.result.now asked.asked c.ask_at.ensures) asked.applies
 
