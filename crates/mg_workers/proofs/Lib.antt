@@ -5,3 +5,4 @@ pub mod Legality
 pub mod Pairs
 pub mod Rounds
 mod Thirds
+mod Wanted

@@ -3,7 +3,7 @@ ghost use Rattle.std.specs.Prelude.{◌≡◌, ℕ, ◌+◌, ◌-◌, ◌≤◌,
 ghost use Rattle.std.specs.List.{AllByRecursion};
 ghost use Rattle.mg_core.specs.declared.entries.Entry.{Entry as EntryOf};
 ghost use Rattle.mg_core.specs.Book.{bare};
-ghost use Rattle.mg_core.specs.Log.{Settled};
+ghost use Rattle.mg_core.specs.Log.{Settled, Handed};
 ghost use Rattle.mg_turn.specs.Turn.{IsSound, is_stopped, records_of};
 ghost use Rattle.mg_workers.specs.Round.{ComesTo, IsFit};
 ghost use Rattle.mg_workers.specs.Run.{Begins, Event, Runs, end_after};
@@ -81,6 +81,28 @@ fn turn_untold<R: Record, S: Searcher<R>>(
     ensures unstopped { IfOk result (λ outcome. is_stopped outcome.end ≡ false) }
 {
     search.turn(alloc, units, facts, &mut Silent {})
+}
+
+/// The first `most` models of the group in the book with a fact number above `after`. Where none is wanted the book isn't
+/// asked.
+#[inline(always)]
+fn wanted<R: Record>(
+    alloc: Global,
+    book: &Book<R>,
+    group: &R::Group,
+    after: u64,
+    most: u32,
+) -> Result<Facts<R>, NoMemory>
+    ensures { IfOk result (Handed R.recording.model_of book.now group.now after most) }
+{
+    if most == 0 {
+        return Ok(Facts {
+            from: after,
+            upto: after,
+            records: Records::new(alloc),
+        });
+    }
+    book.models(alloc, group, after, most)
 }
 
 /// A turn of a search that is told of the book's verdict for its key.
@@ -276,7 +298,7 @@ pub(crate) fn take_turn<R: Record, S: Searcher<R>, P: Sizes>(
 {
     let units = policy.size(seat.held.turns, seat.held.spent, seat.held.allowed);
     let wants = seat.held.search.wants(units);
-    let facts = book.models(alloc, seat.held.search.group(), seat.held.read, wants)?;
+    let facts = wanted(alloc, book, seat.held.search.group(), seat.held.read, wants)?;
     let upto = facts.upto;
     let outcome = turn(
         alloc,
@@ -349,7 +371,7 @@ pub(crate) fn take_whole_turns<R: Record, S: Searcher<R>, P: Sizes>(
     let mut turns = seat.held.turns;
     while is_next_size(policy, &seat.held, units, used, turns) {
         let wants = seat.held.search.wants(units);
-        let facts = book.models(alloc, seat.held.search.group(), read, wants)?;
+        let facts = wanted(alloc, book, seat.held.search.group(), read, wants)?;
         let upto = facts.upto;
         let outcome = turn_told(alloc, book, &mut seat.held.search, units, facts)?;
         if !is_whole(&outcome, units) {
